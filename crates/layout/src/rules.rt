@@ -151,6 +151,18 @@ pub trait Records {
         ensures { λ r. ⌜ r ≡ entry (list (now (self .entry))) i ⌝ };
 }
 
+pub impl Records for &[Record] as SliceRecords {
+    ghost list = { λ s. s .now };
+
+    fn count(&self) -> usize {
+        self.len()
+    }
+
+    fn at(&self, i: usize) -> Record {
+        self[i]
+    }
+}
+
 // Checks the rules of all records in one pass: the first record that breaks one is named, with the first rule
 // that it breaks.
 pub fn check<R: Records>(records: &R, bounds: Bounds) -> Result<(), LoadFault>
