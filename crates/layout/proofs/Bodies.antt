@@ -33,9 +33,9 @@ module _ (rs : List Record) where
   body-found i zero pos le ok lt = absurd (omega arith)
   body-found i (suc m) pos le ok lt = ⊎-elim
       (λ is. ⊎-elim
-        (λ (l : i < bodies-end rs m). body-found i m pos (omega arith) (λ x h. ok x (omega arith)) l)
-        (λ (u : bodies-end rs m ≤ i). (m, record { earlier = omega arith; is-group = is; from = omega (arith, ok m (omega arith) .body is .0); upto = omega (arith, end-of m is) }))
-        (cases-lt i (bodies-end rs m)))
+      (λ (l : i < bodies-end rs m). body-found i m pos (omega arith) (λ x h. ok x (omega arith)) l)
+      (λ (u : bodies-end rs m ≤ i). (m, record { earlier = omega arith; is-group = is; from = omega (arith, ok m (omega arith) .body is .0); upto = omega (arith, end-of m is) }))
+      (cases-lt i (bodies-end rs m)))
       (λ no-group. body-found i m pos (omega arith) (λ x h. ok x (omega arith)) (omega (arith, cond-false (group (entry rs m)) (entry rs m .a + entry rs m .b) (bodies-end rs m) no-group)))
       (cases-bool (group (entry rs m)))
 

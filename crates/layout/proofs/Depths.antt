@@ -30,15 +30,16 @@ module _ (rs : List Record) where
 
   -- the group whose body holds a record of a depth is of the depth above
   parent : (i g s′ s e : ℕ) → Before rs i → bodies-end rs s′ ≡ s → bodies-end rs s ≡ e → s′ ≤ s → s ≤ i → i < e → In-body rs g i → (s′ ≤ g) × (g < s)
-  parent i g s′ s e ok from upto le low high b =
-      (⊎-elim
+  parent i g s′ s e ok from upto le low high b = (
+    ⊎-elim
         (λ (l : g < s′). absurd (let r = ends-rise rs (suc g) s′ (omega arith) (λ x h. ok x (omega arith)) in omega (arith, r, end-of rs g (b .is-group), b .upto)))
         (λ (u : s′ ≤ g). u)
         (cases-lt g s′),
-       ⊎-elim
+    ⊎-elim
         (λ (l : g < s). l)
         (λ (u : s ≤ g). absurd (let r = ends-rise rs s g u (λ x h. ok x (omega (arith, b .earlier))) in omega (arith, r, ok g (b .earlier) .body (b .is-group) .0, b .from)))
-        (cases-lt g s))
+        (cases-lt g s),
+  )
 
   root-only : Only 0 0
   root-only = (top, only)

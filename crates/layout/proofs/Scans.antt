@@ -42,22 +42,24 @@ module _ (l m most : ℕ) (rs : List Record) where
   enter i t k p = ⊎-elim
       (λ at. subst (λ b. Level rs i (cond b (t .level + 1) (t .level)) (cond b (t .next) (t .upto)) × (i < cond b (t .next) (t .upto))) (sym at) (shifted (eqb-true i (t .upto) at)))
       (λ at. subst (λ b. Level rs i (cond b (t .level + 1) (t .level)) (cond b (t .next) (t .upto)) × (i < cond b (t .next) (t .upto))) (sym at)
-        (k .level, let ne : i ≡ t .upto → ⊥ = eqb-false i (t .upto) at in omega (arith, k .level .upto)))
+      (k .level, let ne : i ≡ t .upto → ⊥ = eqb-false i (t .upto) at in omega (arith, k .level .upto)))
       (cases-bool (eqb i (t .upto)))
     where
       shifted : i ≡ t .upto → Level rs i (t .level + 1) (t .next) × (i < t .next)
       shifted is =
           let v = k .level in
           let pos : 0 < i = let r = ends-rise rs 0 (v .s) (omega arith) (λ x h. placed-before i t k x (omega (arith, v .from))) in omega (arith, r, v .ends) in
-          let lt : i < t .next = omega (arith, inside-end rs i (p .inside pos .0) (p .inside pos .1) (placed-before i t k), k .next) in
-          (record {
-            s = i;
-            from = omega arith;
-            upto = omega arith;
-            ends = sym (k .next);
-            here = λ j a h. absurd (omega arith);
-            above = subst (Above rs i) (sym (add-one (t .level))) (upper (v .s) (v .from) (v .ends ∙ sym is) (v .here));
-          }, lt)
+          let lt : i < t .next = omega (arith, inside-end rs i (p .inside pos .0) (p .inside pos .1) (placed-before i t k), k .next) in (
+            record {
+              s = i;
+              from = omega arith;
+              upto = omega arith;
+              ends = sym (k .next);
+              here = λ j a h. absurd (omega arith);
+              above = subst (Above rs i) (sym (add-one (t .level))) (upper (v .s) (v .from) (v .ends ∙ sym is) (v .here));
+            },
+            lt,
+          )
 
   only-depth : (i : ℕ) (t : Track) → Known i t → Placed rs i → Only rs i (level-at i t)
   only-depth i t k p =
@@ -88,22 +90,22 @@ module _ (l m most : ℕ) (rs : List Record) where
       record {
         brace = λ z. let b = and-parts (group (entry rs i)) _ (sym (cond-true (eqb i 0) (group (entry rs i) && eqb (entry rs i .sub) 1) (ltb i (t .next)) (eq-eqb i 0 z)) ∙ two .0) in (b .0, eqb-true _ _ (b .1));
         inside = λ pos. body-found rs i i pos (omega arith) (placed-before i t k)
-          (let z : i ≡ 0 → ⊥ = λ e. omega arith in
-          omega (arith, k .next, ltb-true i (t .next) (sym (cond-false (eqb i 0) (group (entry rs i) && eqb (entry rs i .sub) 1) (ltb i (t .next)) (ne-eqb i 0 z)) ∙ two .0)));
+            (let z : i ≡ 0 → ⊥ = λ e. omega arith in
+            omega (arith, k .next, ltb-true i (t .next) (sym (cond-false (eqb i 0) (group (entry rs i) && eqb (entry rs i .sub) 1) (ltb i (t .next)) (ne-eqb i 0 z)) ∙ two .0)));
         body = λ is. let b = and-parts (eqb (entry rs i .a) (t .next)) _ (sym (cond-true (group (entry rs i)) (eqb (entry rs i .a) (t .next) && leb (entry rs i .a + entry rs i .b) (length rs)) true is) ∙ two .1) in
-          (eqb-true (entry rs i .a) (t .next) (b .0) ∙ k .next, leb-true _ _ (b .1));
+            (eqb-true (entry rs i .a) (t .next) (b .0) ∙ k .next, leb-true _ _ (b .1));
       }
 
   placed-fitting : (i : ℕ) (t : Track) → Known i t → Placed rs i → fitting (length rs) i (t .next) (entry rs i) ≡ true
   placed-fitting i t k p = and-from _ _
       (cond-both (eqb i 0) _ _ (λ b. b ≡ true)
-        (λ z. let b = p .brace (eqb-true i 0 z) in and-from _ _ (b .0) (eq-eqb (entry rs i .sub) 1 (b .1)))
-        (λ z. let ne : i ≡ 0 → ⊥ = eqb-false i 0 z in
-          let b = p .inside (omega arith) in
-          lt-ltb i (t .next) (omega (arith, k .next, inside-end rs i (b .0) (b .1) (placed-before i t k)))))
+      (λ z. let b = p .brace (eqb-true i 0 z) in and-from _ _ (b .0) (eq-eqb (entry rs i .sub) 1 (b .1)))
+      (λ z. let ne : i ≡ 0 → ⊥ = eqb-false i 0 z in
+      let b = p .inside (omega arith) in
+      lt-ltb i (t .next) (omega (arith, k .next, inside-end rs i (b .0) (b .1) (placed-before i t k)))))
       (cond-both (group (entry rs i)) _ _ (λ b. b ≡ true)
-        (λ is. let b = p .body is in and-from _ _ (eq-eqb (entry rs i .a) (t .next) (b .0 ∙ sym (k .next))) (le-leb (entry rs i .a + entry rs i .b) (length rs) (b .1)))
-        (λ _. refl))
+      (λ is. let b = p .body is in and-from _ _ (eq-eqb (entry rs i .a) (t .next) (b .0 ∙ sym (k .next))) (le-leb (entry rs i .a + entry rs i .b) (length rs) (b .1)))
+      (λ _. refl))
 
   -- what the answer of a check tells
   abbrev pub Told : Option LoadFault → Type 0
@@ -125,7 +127,7 @@ module _ (l m most : ℕ) (rs : List Record) where
   exact zero i t is k = subst (λ xs. Told (scan l m most (length rs) i t xs)) (sym (drop-all i rs (omega arith))) (λ j h. k .ruled j (omega arith))
   exact (suc n) i t is k = subst (λ xs. Told (scan l m most (length rs) i t xs)) (sym (drop-cons rs i no-record (omega arith)))
       (decide i t (lined l m (entry rs i)) (fitting (length rs) i (t .next) (entry rs i)) (leb (level-at i t) most) _ (omega arith) k refl refl refl
-        (λ more. subst (λ x. Told (scan l m most (length rs) (i + 1) (along i t (entry rs i)) (drop x rs))) (add-one i) (exact n (i + 1) (along i t (entry rs i)) (omega arith) more)))
+      (λ more. subst (λ x. Told (scan l m most (length rs) (i + 1) (along i t (entry rs i)) (drop x rs))) (add-one i) (exact n (i + 1) (along i t (entry rs i)) (omega arith) more)))
 
   -- the pass is exact: it finds no fault in lawful records alone, and else the first
   pub told-at : (o : Option LoadFault) → o ≡ first-fault l m most rs → Told o

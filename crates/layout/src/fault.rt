@@ -54,12 +54,24 @@ pub impl fmt::Display for LoadFault as LoadFaultDisplay {
     fn fmt<W: fmt::Write>(&self, f: &mut fmt::Formatter<W>) -> fmt::Result {
         match self {
             LoadFault::Short => write!(f, "the file has under 12 bytes, too few for its head"),
-            LoadFault::OutOfRange => write!(f, "the head gives a size out of range: records 1 to 1024, names and strings up to 8192 bytes each"),
+            LoadFault::OutOfRange => write!(
+                f,
+                "the head gives a size out of range: records 1 to 1024, names and strings up to 8192 bytes each"
+            ),
             LoadFault::WrongLength => write!(f, "the file is not as long as its head says"),
-            LoadFault::OffLine(_) => write!(f, "the record has an unknown kind, or a field that its kind does not allow"),
-            LoadFault::Misplaced(_) => write!(f, "the record lies in no body, or its own body is out of place"),
+            LoadFault::OffLine(_) => write!(
+                f,
+                "the record has an unknown kind, or a field that its kind does not allow"
+            ),
+            LoadFault::Misplaced(_) => write!(
+                f,
+                "the record lies in no body, or its own body is out of place"
+            ),
             LoadFault::TooDeep(_) => write!(f, "the record is nested deeper than 32 levels"),
-            LoadFault::SmallTable => write!(f, "the record table has fewer places than the file has records"),
+            LoadFault::SmallTable => write!(
+                f,
+                "the record table has fewer places than the file has records"
+            ),
         }
     }
 }

@@ -11,4 +11,9 @@ pub struct Limits {
 }
 
 // The limits of every sheet: records, bytes of names, bytes of strings, and depth.
-pub const LIMITS: Limits = Limits { records: 1024, names: 8192, strings: 8192, depth: 32 };
+pub const LIMITS: Limits = Limits {
+    records: 1024,
+    names: 8192,
+    strings: 8192,
+    depth: 32,
+};

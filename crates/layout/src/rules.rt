@@ -79,8 +79,16 @@ impl Record {
     fn fits(&self, count: usize, i: usize, next: usize) -> bool
         ensures { λ r. ⌜ r ≡ fitting count i next (now (self .entry)) ⌝ }
     {
-        let inside = if i == 0 { self.is_group() && self.sub == 1 } else { i < next };
-        let body = if self.is_group() { self.a as usize == next && self.a as usize + self.b as usize <= count } else { true };
+        let inside = if i == 0 {
+            self.is_group() && self.sub == 1
+        } else {
+            i < next
+        };
+        let body = if self.is_group() {
+            self.a as usize == next && self.a as usize + self.b as usize <= count
+        } else {
+            true
+        };
         inside && body
     }
 }
@@ -99,7 +107,11 @@ impl Track {
         requires { ⌜ now self .level < 2 ^ 32 ⌝ }
         ensures { λ r. ⌜ r ≡ level-at i (now (self .entry)) ⌝ }
     {
-        if i == self.upto { self.level + 1 } else { self.level }
+        if i == self.upto {
+            self.level + 1
+        } else {
+            self.level
+        }
     }
 
     // The track behind record `i`.
@@ -107,9 +119,17 @@ impl Track {
         requires { ⌜ now self .level < 2 ^ 32 ⌝ }
         ensures { λ r. ⌜ r ≡ along i (now (self .entry)) (now («record» .entry)) ⌝ }
     {
-        let next = if record.is_group() { record.a as usize + record.b as usize } else { self.next };
+        let next = if record.is_group() {
+            record.a as usize + record.b as usize
+        } else {
+            self.next
+        };
         let upto = if i == self.upto { self.next } else { self.upto };
-        Track { next, level: self.level_at(i), upto }
+        Track {
+            next,
+            level: self.level_at(i),
+            upto,
+        }
     }
 }
 
@@ -170,7 +190,11 @@ pub fn check<R: Records>(records: &R, bounds: Bounds) -> Result<(), LoadFault>
     ensures rules { λ r. ⌜ Cases r (λ _. (i : ℕ) → i < length (list (now (records .entry))) → Ruled (bounds .names) (bounds .strings) (bounds .depth) (list (now (records .entry))) i) (λ f. First-break (bounds .names) (bounds .strings) (bounds .depth) (list (now (records .entry))) f) ⌝ }
 {
     let count = records.count();
-    let mut track = Track { next: 1, level: 0, upto: 1 };
+    let mut track = Track {
+        next: 1,
+        level: 0,
+        upto: 1,
+    };
     for i in 0..count {
         let record = records.at(i);
         if let Some(fault) = record.fault(bounds, count, i, &track) {

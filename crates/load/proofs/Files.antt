@@ -22,9 +22,10 @@ records-at n bs i h = getD-map-counting (λ k. record-at bs (32 * k)) 0 n i i no
 -- one record more is copied
 pub copy-more : (rs from to : List Record) (i : ℕ) (r : Record) → i < length rs → i < length to → r ≡ entry rs i → take i to ≡ take i rs → drop i to ≡ drop i from →
     (take (i + 1) (set to i r) ≡ take (i + 1) rs) × (drop (i + 1) (set to i r) ≡ drop (i + 1) from)
-copy-more rs from to i r a b is front back =
-    (take-more-set to i r b ∙ ap (λ (x : Record). take i to ++ (x ∷ [])) is ∙ ap (λ (xs : List Record). xs ++ (entry rs i ∷ [])) front ∙ sym (take-more rs i no-record a),
-     drop-set-lt (i + 1) to i r (omega arith) ∙ sym (drop-drop 1 i to) ∙ ap (drop 1) back ∙ drop-drop 1 i from)
+copy-more rs from to i r a b is front back = (
+  take-more-set to i r b ∙ ap (λ (x : Record). take i to ++ (x ∷ [])) is ∙ ap (λ (xs : List Record). xs ++ (entry rs i ∷ [])) front ∙ sym (take-more rs i no-record a),
+  drop-set-lt (i + 1) to i r (omega arith) ∙ sym (drop-drop 1 i to) ∙ ap (drop 1) back ∙ drop-drop 1 i from,
+)
 
 module _ (f : List ℕ) where
   -- what the bytes of a file hold, where its head says the truth
@@ -59,7 +60,7 @@ module _ (f : List ℕ) where
   encodes-only p e =
       let pools : drop (32 * N f) (after-head f) ≡ p .names ++ p .strings = ap (λ n. drop (32 * n) (after-head f)) (e .count) ∙ e .pools in
       let rs : p .records ≡ records-of (N f) (after-head f) = ext-getD no-record (p .records) (records-of (N f) (after-head f)) (sym (e .count) ∙ sym (records-length (N f) (after-head f)))
-            (λ i h. e .records i h ∙ sym (records-at (N f) (after-head f) i (omega (arith, e .count)))) in
+      (λ i h. e .records i h ∙ sym (records-at (N f) (after-head f) i (omega (arith, e .count)))) in
       let ns : p .names ≡ take (L1 f) (drop (32 * N f) (after-head f)) = sym (ap (take (L1 f)) pools ∙ take-at (p .names) (p .strings) (L1 f) (sym (e .names-size))) in
       let ss : p .strings ≡ drop (L1 f) (drop (32 * N f) (after-head f)) = sym (ap (drop (L1 f)) pools ∙ drop-at (p .names) (p .strings) (L1 f) (sym (e .names-size))) in
       λ i. record { records = rs i; names = ns i; strings = ss i }

@@ -56,8 +56,8 @@ module _ (lim : Limits) (f : List ℕ) (places : ℕ) where
       let roomy : Roomy lim f places = (((e .head, same-sizes _ _ _ (e .count) (e .names-size) (e .strings-size) ∙ t .kept .sizes), size), omega (arith, e .count, t .fits)) in
       let k : Kept lim (held-in f) = subst (Kept lim) (encodes-only f p e) (t .kept) in
       let law : (i : ℕ) → i < length (records-of (N f) (after-head f)) → Ruled (L1 f) (L2 f) (lim .depth) (records-of (N f) (after-head f)) i =
-            subst (λ x. (i : ℕ) → i < length (records-of (N f) (after-head f)) → Ruled x (L2 f) (lim .depth) (records-of (N f) (after-head f)) i) (names-length f (e .head) size)
-              (subst (λ x. (i : ℕ) → i < length (records-of (N f) (after-head f)) → Ruled (length (held-in f .names)) x (lim .depth) (records-of (N f) (after-head f)) i) (strings-length f (e .head) size) (k .each)) in
+      subst (λ x. (i : ℕ) → i < length (records-of (N f) (after-head f)) → Ruled x (L2 f) (lim .depth) (records-of (N f) (after-head f)) i) (names-length f (e .head) size)
+      (subst (λ x. (i : ℕ) → i < length (records-of (N f) (after-head f)) → Ruled (length (held-in f .names)) x (lim .depth) (records-of (N f) (after-head f)) i) (strings-length f (e .head) size) (k .each)) in
       checked roomy ∙ lawful-faultless (L1 f) (L2 f) (lim .depth) (records-of (N f) (after-head f)) law
 
   broken : (x : LoadFault) → Roomy lim f places → First-break (L1 f) (L2 f) (lim .depth) (records-of (N f) (after-head f)) x → Fails lim f places x
@@ -124,11 +124,11 @@ module _ (lim : Limits) (f : List ℕ) (before : List Record) where
             pub accepted : None ≡ first-fault l m (lim .depth) (records-of k bs) → take k after ≡ records-of k bs → drop k after ≡ drop k before →
                 ns ≡ take l (drop (32 * n) rest) → ss ≡ drop l (drop (32 * n) rest) → Accepted lim f before after n ns ss
             accepted none first later names strings = record {
-                takes = record { encodes = subst (Encodes f) (sym is) enc; kept = subst (Kept lim) (sym is) held-kept; fits = subst (λ (p : Parts). length (p .records) ≤ length before) (sym is) (omega (arith, records-length (N f) (after-head f), s .count)) };
-                only = λ p e. encodes-only f p e ∙ sym is;
-                count = sym (ap length records ∙ records-length (N f) (after-head f) ∙ sym (s .count));
-                later = sym (take-append-drop n after) ∙ ap (λ x. take n after ++ x) (subst (λ x. drop x after ≡ drop x before) kn later);
-              }
+              takes = record { encodes = subst (Encodes f) (sym is) enc; kept = subst (Kept lim) (sym is) held-kept; fits = subst (λ (p : Parts). length (p .records) ≤ length before) (sym is) (omega (arith, records-length (N f) (after-head f), s .count)) };
+              only = λ p e. encodes-only f p e ∙ sym is;
+              count = sym (ap length records ∙ records-length (N f) (after-head f) ∙ sym (s .count));
+              later = sym (take-append-drop n after) ∙ ap (λ x. take n after ++ x) (subst (λ x. drop x after ≡ drop x before) kn later);
+            }
               where
                 records : take n after ≡ records-of (N f) (after-head f)
                 records = ap (λ x. take x after) (sym kn) ∙ first ∙ ap (λ x. records-of x bs) (kn ∙ s .count) ∙ ap (records-of (N f)) (bsr ∙ s .follows)
@@ -150,7 +150,7 @@ module _ (lim : Limits) (f : List ℕ) (before : List Record) where
 
                 held-kept : Kept lim (held-in f)
                 held-kept = record {
-                    sizes = ap (λ x. sized lim x (length (held-in f .names)) (length (held-in f .strings))) (sym (enc .count)) ∙ ap (λ x. sized lim (N f) x (length (held-in f .strings))) (sym (enc .names-size)) ∙ ap (λ x. sized lim (N f) (L1 f) x) (sym (enc .strings-size)) ∙ in-range .1;
-                    each = subst (λ x. (i : ℕ) → i < length (records-of (N f) (after-head f)) → Ruled x (length (held-in f .strings)) (lim .depth) (records-of (N f) (after-head f)) i) (enc .names-size)
+                  sizes = ap (λ x. sized lim x (length (held-in f .names)) (length (held-in f .strings))) (sym (enc .count)) ∙ ap (λ x. sized lim (N f) x (length (held-in f .strings))) (sym (enc .names-size)) ∙ ap (λ x. sized lim (N f) (L1 f) x) (sym (enc .strings-size)) ∙ in-range .1;
+                  each = subst (λ x. (i : ℕ) → i < length (records-of (N f) (after-head f)) → Ruled x (length (held-in f .strings)) (lim .depth) (records-of (N f) (after-head f)) i) (enc .names-size)
                       (subst (λ x. (i : ℕ) → i < length (records-of (N f) (after-head f)) → Ruled (L1 f) x (lim .depth) (records-of (N f) (after-head f)) i) (enc .strings-size) law);
-                  }
+                }

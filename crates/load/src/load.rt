@@ -6,14 +6,14 @@ ghost use Rattle.std.specs.Results.{Cases};
 ghost use Rattle.std.specs.Options.{Cases as BySome};
 ghost use Rattle.layout.specs.Rules.{limits};
 ghost use Rattle.load.specs.Files.{records-of, Split, Accepted, Refused};
-use crate::packed::decode::PackedRecords;
 use crate::packed::Packed;
+use crate::packed::decode::PackedRecords;
 use layout::fault::LoadFault;
 use layout::limits::LIMITS;
 use layout::record::Record;
 use layout::rules::Bounds;
-use layout::rules::check;
 use layout::rules::Records;
+use layout::rules::check;
 
 // What a load leaves beside the records in the table: their number, and the two pools in the file.
 #[derive(Clone, Copy)]
@@ -41,7 +41,14 @@ fn take_head(file: &[u8]) -> Option<(Head, &[u8])>
     let count = u32::from_le_bytes([*n0, *n1, *n2, *n3]) as usize;
     let names = u32::from_le_bytes([*l0, *l1, *l2, *l3]) as usize;
     let strings = u32::from_le_bytes([*m0, *m1, *m2, *m3]) as usize;
-    Some((Head { count, names, strings }, rest))
+    Some((
+        Head {
+            count,
+            names,
+            strings,
+        },
+        rest,
+    ))
 }
 
 // Copies the records into the first places of the table; the later places stay.
@@ -74,9 +81,20 @@ pub fn load<'a>(file: &'a [u8], table: &mut [Record]) -> Result<Loaded<'a>, Load
         return Err(LoadFault::SmallTable);
     }
     let packed = Packed::new(rest, head.count);
-    check(&packed, Bounds { names: head.names, strings: head.strings, depth: LIMITS.depth })?;
+    check(
+        &packed,
+        Bounds {
+            names: head.names,
+            strings: head.strings,
+            depth: LIMITS.depth,
+        },
+    )?;
     copy(&packed, table);
     let (_, pools) = rest.split_at(records);
     let (names, strings) = pools.split_at(head.names);
-    Ok(Loaded { count: head.count, names, strings })
+    Ok(Loaded {
+        count: head.count,
+        names,
+        strings,
+    })
 }

@@ -1,1 +1,4 @@
 mod Made
+mod Lines
+mod Runs
+mod Cursors

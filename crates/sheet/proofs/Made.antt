@@ -38,9 +38,9 @@ module _ (p : Parts) where
 module _ (n : ℕ) (table : List Record) (ns ss : List ℕ) where
   pub made : Made n table ns ss (sheet-of n table ns ss)
   made = record {
-      lawful = λ le k. cond-true (sheetable n table ns ss) _ _ (and-from _ _ (le-leb n (length table) le) (rules-kept limits (parts-of n table ns ss) k));
-      unlawful = λ breaks. go (sheetable n table ns ss) refl breaks;
-    }
+    lawful = λ le k. cond-true (sheetable n table ns ss) _ _ (and-from _ _ (le-leb n (length table) le) (rules-kept limits (parts-of n table ns ss) k));
+    unlawful = λ breaks. go (sheetable n table ns ss) refl breaks;
+  }
     where
       go : (b : Bool) → sheetable n table ns ss ≡ b → (n ≤ length table → Kept limits (parts-of n table ns ss) → ⊥) → cond b (parts-of n table ns ss) empty-sheet ≡ empty-sheet
       go true e breaks = let two = and-parts (leb n (length table)) _ e in absurd (breaks (leb-true n (length table) (two .0)) (kept-rules limits (parts-of n table ns ss) (two .1)))

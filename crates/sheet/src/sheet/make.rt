@@ -7,17 +7,30 @@ use super::Sheet;
 use layout::limits::LIMITS;
 use layout::record::Record;
 use layout::rules::Bounds;
-use layout::rules::check;
 use layout::rules::SliceRecords;
+use layout::rules::check;
 
 // The sheet of one record, an empty brace.
-const EMPTY: [Record; 1] = [Record { kind: 3, sub: 1, mark: 0, a: 1, b: 0, place: 0, value: 0, bits: 0 }];
+const EMPTY: [Record; 1] = [Record {
+    kind: 3,
+    sub: 1,
+    mark: 0,
+    a: 1,
+    b: 0,
+    place: 0,
+    value: 0,
+    bits: 0,
+}];
 
 // Whether these records and pools keep every rule.
 fn keep_rules(records: &[Record], names: &[u8], strings: &[u8]) -> bool
     ensures { λ r. ⌜ r ≡ kept limits (record { records = now (records .entry); names = now (names .entry); strings = now (strings .entry) }) ⌝ }
 {
-    let bounds = Bounds { names: names.len(), strings: strings.len(), depth: LIMITS.depth };
+    let bounds = Bounds {
+        names: names.len(),
+        strings: strings.len(),
+        depth: LIMITS.depth,
+    };
     LIMITS.allow(records.len(), names.len(), strings.len()) && check(&records, bounds).is_ok()
 }
 
@@ -35,9 +48,17 @@ impl<'a> Sheet<'a> {
         ensures rules { λ r. ⌜ Made count (now (table .entry)) (now (names .entry)) (now (strings .entry)) (held r) ⌝ }
     {
         if !is_sheet(count, table, names, strings) {
-            return Sheet { records: &EMPTY, names: &[], strings: &[] };
+            return Sheet {
+                records: &EMPTY,
+                names: &[],
+                strings: &[],
+            };
         }
-        Sheet { records: &table[0..count], names, strings }
+        Sheet {
+            records: &table[0..count],
+            names,
+            strings,
+        }
     }
 
     // How many records it has. Every sheet keeps the rules.

@@ -25,11 +25,12 @@ returns-in-Some g c =
 pub loop-i-again : need.loop-i-again
 loop-i-again g c =
     let b = c .args .bounds in
-    let rs = g .R·Records .list (c .args .records .now) in
-    (subst (λ (t : Track). t .level ≤ b .depth) (sym (c .along-track .ensures)) (level-low (b .names) (b .strings) (b .depth) (c .count-count .result) (c .loop-i .i) (c .loop-i .track) rs (c .at-record .result) (omega (arith, c .count-count .ensures)) (c .at-record .ensures) (sym (c .in-rest .ensures tt))),
-     ap (λ (t : Track). scan (b .names) (b .strings) (b .depth) (c .count-count .result) (c .loop-i .i + 1) t (drop (c .loop-i .i + 1) rs)) (c .along-track .ensures)
-       ∙ sym (scan-more (b .names) (b .strings) (b .depth) (c .count-count .result) (c .loop-i .i) (c .loop-i .track) rs (c .at-record .result) (omega (arith, c .count-count .ensures)) (c .at-record .ensures) (sym (c .in-rest .ensures tt)))
-       ∙ c .loop-i .inv .1)
+    let rs = g .R·Records .list (c .args .records .now) in (
+      subst (λ (t : Track). t .level ≤ b .depth) (sym (c .along-track .ensures)) (level-low (b .names) (b .strings) (b .depth) (c .count-count .result) (c .loop-i .i) (c .loop-i .track) rs (c .at-record .result) (omega (arith, c .count-count .ensures)) (c .at-record .ensures) (sym (c .in-rest .ensures tt))),
+      ap (λ (t : Track). scan (b .names) (b .strings) (b .depth) (c .count-count .result) (c .loop-i .i + 1) t (drop (c .loop-i .i + 1) rs)) (c .along-track .ensures)
+          ∙ sym (scan-more (b .names) (b .strings) (b .depth) (c .count-count .result) (c .loop-i .i) (c .loop-i .track) rs (c .at-record .result) (omega (arith, c .count-count .ensures)) (c .at-record .ensures) (sym (c .in-rest .ensures tt)))
+          ∙ c .loop-i .inv .1,
+    )
 
 pub returns : need.returns
 returns g c =

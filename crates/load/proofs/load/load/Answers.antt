@@ -20,7 +20,7 @@ pub returns-in-Break-check : need.returns-in-Break-check
 returns-in-Break-check c =
     let p = err-from-errBy (c .from-residual .result) (c .from-residual .ensures .1) in
     rw (p .1, p .2) (refused-record _ _ _ _ _ _ _ (c .in-Some .ensures tt) (c .if-not-allow .ensures tt) (c .if-rest-records .left) (c .if-table-head .left)
-      (c .new-packed .result .count) (c .new-packed .result .bytes .now) (c .new-packed .ensures .count) (c .new-packed .ensures .bytes) (c .in-Break-check .field-0 .0) (c .in-Break-check .ensures tt .same))
+    (c .new-packed .result .count) (c .new-packed .result .bytes .now) (c .new-packed .ensures .count) (c .new-packed .ensures .bytes) (c .in-Break-check .field-0 .0) (c .in-Break-check .ensures tt .same))
 
 pub returns : need.returns
 returns c =

@@ -22,5 +22,5 @@ pub returns : need.returns
 returns c =
     let whole : c .args .count - 0 ≡ c .args .count = omega arith in
     let e = ap (λ (k : ℕ). parts-of k (c .args .table .now) (c .args .names .now) (c .args .strings .now)) whole
-          ∙ sym (cond-true (sheetable (c .args .count) (c .args .table .now) (c .args .names .now) (c .args .strings .now)) (parts-of (c .args .count) (c .args .table .now) (c .args .names .now) (c .args .strings .now)) empty-sheet (sym (c .if-not-is-sheet .ensures tt))) in
+    ∙ sym (cond-true (sheetable (c .args .count) (c .args .table .now) (c .args .names .now) (c .args .strings .now)) (parts-of (c .args .count) (c .args .table .now) (c .args .names .now) (c .args .strings .now)) empty-sheet (sym (c .if-not-is-sheet .ensures tt))) in
     record { is = e; rules = made-at _ _ _ _ _ e }

@@ -1,0 +1,105 @@
+ghost use mathlib.Core.Path.{_≡_};
+ghost use Rattle.sheet.specs.Faults.{number, at, detail, wanted-number};
+use std::fmt;
+
+// What a read wanted of a token.
+#[derive(Clone, Copy, PartialEq, Eq, Debug)]
+pub enum Wanted {
+    Bool,
+    Signed,
+    Unsigned,
+    Float,
+    Char,
+    String,
+    Identifier,
+    Unit,
+}
+
+// Why a read is refused, and at which record.
+#[derive(Clone, Copy, PartialEq, Eq, Debug)]
+pub enum Fault {
+    // this token is not what was wanted
+    Wrong(Wanted, usize),
+    // no token is left after this one
+    Ended(Wanted, usize),
+}
+
+impl Wanted {
+    // Its number, which is the detail of a refusal.
+    pub fn number(&self) -> u8
+        ensures { λ r. ⌜ r ≡ wanted-number (now (self .entry)) ⌝ }
+    {
+        match self {
+            Wanted::Bool => 1,
+            Wanted::Signed => 2,
+            Wanted::Unsigned => 3,
+            Wanted::Float => 4,
+            Wanted::Char => 5,
+            Wanted::String => 6,
+            Wanted::Identifier => 7,
+            Wanted::Unit => 8,
+        }
+    }
+}
+
+impl Fault {
+    // Its number among the refusals.
+    pub fn number(&self) -> u8
+        ensures { λ r. ⌜ r ≡ number (now (self .entry)) ⌝ }
+    {
+        match self {
+            Fault::Wrong(_, _) => 10,
+            Fault::Ended(_, _) => 11,
+        }
+    }
+
+    // The record that it names.
+    pub fn record(&self) -> usize
+        ensures { λ r. ⌜ r ≡ at (now (self .entry)) ⌝ }
+    {
+        match self {
+            Fault::Wrong(_, record) => *record,
+            Fault::Ended(_, record) => *record,
+        }
+    }
+
+    // The number of what was wanted.
+    pub fn detail(&self) -> u8
+        ensures { λ r. ⌜ r ≡ detail (now (self .entry)) ⌝ }
+    {
+        match self {
+            Fault::Wrong(wanted, _) => wanted.number(),
+            Fault::Ended(wanted, _) => wanted.number(),
+        }
+    }
+}
+
+pub impl fmt::Display for Wanted as WantedDisplay {
+    fn fmt<W: fmt::Write>(&self, f: &mut fmt::Formatter<W>) -> fmt::Result {
+        match self {
+            Wanted::Bool => write!(f, "true or false"),
+            Wanted::Signed => write!(f, "a signed integer in range"),
+            Wanted::Unsigned => write!(f, "an unsigned integer in range"),
+            Wanted::Float => write!(f, "a number"),
+            Wanted::Char => write!(f, "a character"),
+            Wanted::String => write!(f, "a string"),
+            Wanted::Identifier => write!(f, "an identifier"),
+            Wanted::Unit => write!(f, "an empty pair of parentheses"),
+        }
+    }
+}
+
+pub impl fmt::Display for Fault as FaultDisplay {
+    fn fmt<W: fmt::Write>(&self, f: &mut fmt::Formatter<W>) -> fmt::Result {
+        match self {
+            Fault::Wrong(wanted, record) => write!(
+                f,
+                "expected {wanted}, but found another token at record {record}"
+            ),
+            Fault::Ended(wanted, record) => write!(
+                f,
+                "expected {wanted} after record {record}, but nothing is left"
+            ),
+        }
+    }
+}

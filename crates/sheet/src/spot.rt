@@ -1,0 +1,100 @@
+ghost use mathlib.Core.Path.{_≡_};
+ghost use Prim.Native.Nat.{_+_, _^_, _<_};
+ghost use Rattle.sheet.specs.Spots.{at-root, at-body, past, body-of};
+use crate::token::Group;
+
+// The body of a group: its records are those from `first` up to `end`.
+#[derive(Clone, Copy, PartialEq, Eq, Debug)]
+pub struct Body {
+    group: usize,
+    first: usize,
+    end: usize,
+}
+
+// Where a cursor stands, in plain numbers and with no sheet: its run is the records from `first` up to `end`,
+// which lay in the body of `group` in the sheet that it was begun on.
+#[derive(Clone, Copy, PartialEq, Eq, Debug)]
+pub struct Spot {
+    pub(crate) group: usize,
+    pub(crate) first: usize,
+    pub(crate) place: usize,
+    pub(crate) end: usize,
+}
+
+// What a sheet has of a spot: the rest of its run, and the last token passed.
+#[derive(Clone, Copy, PartialEq, Eq, Debug)]
+pub struct Rest {
+    pub from: usize,
+    pub to: usize,
+    pub last: Option<usize>,
+}
+
+impl Body {
+    pub(crate) fn new(group: usize, token: Group) -> Body
+        requires { ⌜ token .first + token .count < 2 ^ 64 ⌝ }
+        ensures { λ r. ⌜ r ≡ body-of group token ⌝ }
+    {
+        Body {
+            group,
+            first: token.first,
+            end: token.first + token.count,
+        }
+    }
+
+    // The record of its group.
+    pub fn group(&self) -> usize
+        ensures { λ r. ⌜ r ≡ now (self .entry) .group ⌝ }
+    {
+        self.group
+    }
+
+    pub fn first(&self) -> usize
+        ensures { λ r. ⌜ r ≡ now (self .entry) .first ⌝ }
+    {
+        self.first
+    }
+
+    pub fn end(&self) -> usize
+        ensures { λ r. ⌜ r ≡ now (self .entry) .end ⌝ }
+    {
+        self.end
+    }
+}
+
+impl Spot {
+    // Before record 0.
+    pub fn root() -> Spot
+        ensures { λ r. ⌜ r ≡ at-root ⌝ }
+    {
+        Spot {
+            group: 0,
+            first: 0,
+            place: 0,
+            end: 1,
+        }
+    }
+
+    // At the start of a body.
+    pub fn within(body: Body) -> Spot
+        ensures { λ r. ⌜ r ≡ at-body body ⌝ }
+    {
+        Spot {
+            group: body.group,
+            first: body.first,
+            place: body.first,
+            end: body.end,
+        }
+    }
+
+    // At another place of the same run.
+    pub fn past(self, place: usize) -> Spot
+        ensures { λ r. ⌜ r ≡ past self place ⌝ }
+    {
+        Spot {
+            group: self.group,
+            first: self.first,
+            place,
+            end: self.end,
+        }
+    }
+}
