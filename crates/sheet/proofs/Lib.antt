@@ -1,4 +1,3 @@
 mod Made
 mod Lines
-mod Runs
-mod Cursors
+pub mod Runs

@@ -2,5 +2,3 @@ pub mod Sheets
 pub mod Tokens
 pub mod Spots
 pub mod Trees
-pub mod Cursors
-pub mod Faults

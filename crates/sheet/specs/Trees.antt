@@ -13,6 +13,9 @@ use Rattle.sheet.specs.declared.token.Punct.{Punct}
 use Rattle.sheet.specs.declared.token.Literal.{Literal}
 use Rattle.sheet.specs.declared.token.Token.{Token}
 use Rattle.sheet.specs.declared.token.Token.the-variants as tokens
+use Rattle.sheet.specs.declared.text.Pool.{Pool}
+use Rattle.sheet.specs.declared.text.Pool.the-variants.{Names, Strings}
+use Rattle.sheet.specs.declared.text.Text.{Text}
 use Rattle.sheet.specs.declared.tree.Tree.{Tree}
 use Rattle.sheet.specs.declared.tree.Tree.the-variants as trees
 use Rattle.sheet.specs.declared.spot.Body.{Body}
@@ -48,3 +51,23 @@ if-there h i x = cond (ltb i (length (h .records))) (Some x) None
 
 abbrev pub shown : Option Tree → Option Seen
 shown r = mapped seen r
+
+-- A TEXT: a part of the names for an identifier, or of the strings for a string literal
+pub record Worded : Type 0 where
+  pub pool : Pool
+  pub start : ℕ
+  pub bytes : List ℕ
+
+abbrev pub worded : Text → Worded
+worded t = record { pool = t .pool; start = t .start; bytes = t .bytes .now }
+
+abbrev pub text-shown : Option Text → Option Worded
+text-shown r = mapped worded r
+
+-- the text of a token, if it has one
+abbrev pub text-of : Parts → Token → Option Worded
+text-of h (tokens.Ident p) = Some (record { pool = Names; start = p .start; bytes = bytes-of (h .names) p })
+text-of h (tokens.String p) = Some (record { pool = Strings; start = p .start; bytes = bytes-of (h .strings) p })
+text-of h (tokens.Punct p) = None
+text-of h (tokens.Literal l) = None
+text-of h (tokens.Group g) = None

@@ -1,6 +1,4 @@
-// The lawful sheet: its tokens and trees, and a cursor over them.
-pub mod cursor;
-pub mod fault;
+// The lawful sheet: its tokens, its trees and its runs.
 pub mod sheet;
 pub mod spot;
 pub mod text;

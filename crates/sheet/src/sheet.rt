@@ -12,7 +12,7 @@ pub mod runs;
 #[derive(Clone, Copy)]
 pub struct Sheet<'a> {
     records: &'a [Record],
-    pub(crate) names: &'a [u8],
-    pub(crate) strings: &'a [u8],
+    names: &'a [u8],
+    strings: &'a [u8],
     ghost lawful: { kept limits (record { records = records .now; names = names .now; strings = strings .now }) ≡ true },
 }

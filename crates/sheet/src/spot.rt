@@ -4,7 +4,7 @@ ghost use Rattle.sheet.specs.Spots.{at-root, at-body, past, body-of};
 use crate::token::Group;
 
 // The body of a group: its records are those from `first` up to `end`.
-#[derive(Clone, Copy, PartialEq, Eq, Debug)]
+#[derive(Clone, Copy)]
 pub struct Body {
     group: usize,
     first: usize,
@@ -13,7 +13,7 @@ pub struct Body {
 
 // Where a cursor stands, in plain numbers and with no sheet: its run is the records from `first` up to `end`,
 // which lay in the body of `group` in the sheet that it was begun on.
-#[derive(Clone, Copy, PartialEq, Eq, Debug)]
+#[derive(Clone, Copy, PartialEq, Eq)]
 pub struct Spot {
     pub(crate) group: usize,
     pub(crate) first: usize,
@@ -22,7 +22,7 @@ pub struct Spot {
 }
 
 // What a sheet has of a spot: the rest of its run, and the last token passed.
-#[derive(Clone, Copy, PartialEq, Eq, Debug)]
+#[derive(Clone, Copy)]
 pub struct Rest {
     pub from: usize,
     pub to: usize,

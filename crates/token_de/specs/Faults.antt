@@ -1,9 +1,9 @@
 -- The number of each refusal of a read, its detail, and the record that it names. Assumes nothing.
 use Prim.Native.Nat.{ℕ}
-use Rattle.sheet.specs.declared.fault.Fault.{Fault}
-use Rattle.sheet.specs.declared.fault.Fault.the-variants.{Wrong, Ended}
-use Rattle.sheet.specs.declared.fault.Wanted.{Wanted}
-use Rattle.sheet.specs.declared.fault.Wanted.the-variants as wanted
+use Rattle.token_de.specs.declared.fault.Fault.{Fault}
+use Rattle.token_de.specs.declared.fault.Fault.the-variants.{Wrong, Ended}
+use Rattle.token_de.specs.declared.fault.Wanted.{Wanted}
+use Rattle.token_de.specs.declared.fault.Wanted.the-variants as wanted
 
 abbrev pub number : Fault → ℕ
 number (Wrong w i) = 10

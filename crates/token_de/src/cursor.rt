@@ -1,20 +1,19 @@
 ghost use mathlib.Core.Path.{_≡_};
 ghost use Rattle.sheet.specs.Sheets.{held};
 ghost use Rattle.sheet.specs.Spots.{at-root, at-body, rest};
-ghost use Rattle.sheet.specs.Cursors.{peeked, peek-shown, passed-one, text-shown, text-read, text-after};
+ghost use Rattle.token_de.specs.Cursors.{peeked, peek-shown, passed-one, text-shown, text-read, text-after};
 use crate::fault::Fault;
 use crate::fault::Wanted;
-use crate::sheet::Sheet;
-use crate::spot::Body;
-use crate::spot::Spot;
-use crate::spot::SpotDebug;
-use crate::spot::SpotPartialEq;
-use crate::text::Text;
-use crate::tree::Tree;
+use sheet::sheet::Sheet;
+use sheet::spot::Body;
+use sheet::spot::Spot;
+use sheet::spot::SpotPartialEq;
+use sheet::text::Text;
+use sheet::tree::Tree;
 
 // A cursor over the trees of one run. It holds no sheet; each call is lent one, and where that sheet does not
 // have the run, nothing is left and nothing was passed.
-#[derive(Clone, Copy, PartialEq, Eq, Debug)]
+#[derive(Clone, Copy, PartialEq, Eq)]
 pub struct TokenDe {
     at: Spot,
 }
@@ -48,11 +47,11 @@ impl TokenDe {
         ensures { λ r. ⌜ peek-shown r ≡ peeked (held (now (sheet .entry))) (now (self .entry) .at) ⌝ }
     {
         let rest = sheet.rest(self.at);
-        if rest.from < rest.to {
-            Some((rest.from, sheet.tree_at(rest.from)))
-        } else {
-            None
+        if rest.from >= rest.to {
+            return None;
         }
+        let tree = sheet.tree(rest.from)?;
+        Some((rest.from, tree))
     }
 
     // The next tree and its record, which are passed.
@@ -61,12 +60,12 @@ impl TokenDe {
         ensures passes { λ _. ⌜ now (self .exit) .at ≡ passed-one (held (now (sheet .entry))) (now (self .entry) .at) ⌝ }
     {
         let rest = sheet.rest(self.at);
-        if rest.from < rest.to {
-            self.at = self.at.past(rest.from + 1);
-            Some((rest.from, sheet.tree_at(rest.from)))
-        } else {
-            None
+        if rest.from >= rest.to {
+            return None;
         }
+        let tree = sheet.tree(rest.from)?;
+        self.at = self.at.past(rest.from + 1);
+        Some((rest.from, tree))
     }
 
     // The text of the next token, an identifier or a string literal, which is passed.
@@ -78,7 +77,9 @@ impl TokenDe {
         if rest.from >= rest.to {
             return Err(Fault::Ended(Wanted::String, rest.last.unwrap_or(0)));
         }
-        let text = sheet.text_at(rest.from)?;
+        let Some(text) = sheet.text(rest.from) else {
+            return Err(Fault::Wrong(Wanted::String, rest.from));
+        };
         self.at = self.at.past(rest.from + 1);
         Ok(text)
     }

@@ -1,5 +1,5 @@
 ghost use mathlib.Core.Path.{_≡_};
-ghost use Rattle.sheet.specs.Faults.{number, at, detail, wanted-number};
+ghost use Rattle.token_de.specs.Faults.{number, at, detail, wanted-number};
 use std::fmt;
 
 // What a read wanted of a token.

@@ -2,23 +2,37 @@
 use mathlib.Core.Path.{_≡_, refl, sym, ap, subst, _∙_}
 use mathlib.Core.Bool.{Bool, true, false, cond}
 use Prim.Native.Nat.{ℕ, _+_, _≤_, _<_}
+use native.Mathlib.Omega.{arith}
 use lib.Dec.{ltb}
+use lib.ListN.{length}
 use Rattle.std.proofs.shelf.Tests.{cond-true, cond-false, lt-ltb, le-ltb}
-use Rattle.std.specs.Options.{valueOr}
+use Rattle.std.specs.Options.{valueOr, okOr}
 use Rattle.std.specs.Results.{isOk}
+use Rattle.std.specs.declared.option.Option.{Option}
 use Rattle.std.specs.declared.option.Option.the-variants.{Some, None}
 use Rattle.std.specs.declared.result.Result.{Result}
 use Rattle.std.specs.declared.result.Result.the-variants.{Ok, Err}
 use Rattle.layout.specs.Rules.{Parts}
 use Rattle.sheet.specs.declared.spot.Spot.{Spot}
 use Rattle.sheet.specs.declared.spot.Rest.{Rest}
-use Rattle.sheet.specs.declared.fault.Fault.{Fault}
-use Rattle.sheet.specs.declared.fault.Fault.the-variants.{Ended}
-use Rattle.sheet.specs.declared.fault.Wanted.the-variants as wanted
+use Rattle.token_de.specs.declared.fault.Fault.{Fault}
+use Rattle.token_de.specs.declared.fault.Fault.the-variants.{Wrong, Ended}
+use Rattle.token_de.specs.declared.fault.Wanted.the-variants as wanted
 use Rattle.sheet.specs.Tokens.{token}
 use Rattle.sheet.specs.Spots.{rest, past}
-use Rattle.sheet.specs.Trees.{Seen, tree-of}
-use Rattle.sheet.specs.Cursors.{Worded, peeked, passed-one, text-of, text-read, text-after}
+use Rattle.sheet.specs.Trees.{Seen, tree-of, if-there, Worded, text-of}
+use Rattle.token_de.specs.Cursors.{peeked, passed-one, text-read, text-after}
+
+-- what a sheet answers of a record that it has
+module _ {A : Type 0} (h : Parts) (i : ℕ) (in-range : i < length (h .records)) where
+  pub there : (x : Option A) → cond (ltb i (length (h .records))) x None ≡ x
+  there x = cond-true (ltb i (length (h .records))) x None (lt-ltb i (length (h .records)) in-range)
+
+  pub there-some : (x y : A) → Some y ≡ if-there h i x → y ≡ x
+  there-some x y e = let t = there (Some x) in cc
+
+  pub there-none : (x : A) → None ≡ if-there h i x → ⊥
+  there-none x e = let t = there (Some x) in let z : _≡_ {A = ℕ} 0 1 = cc in omega arith
 
 module _ (h : Parts) (s : Spot) (r : Rest) (is : r ≡ rest h s) where
   -- a choice by whether a tree is left, made on the rest at hand
@@ -35,10 +49,10 @@ module _ (h : Parts) (s : Spot) (r : Rest) (is : r ≡ rest h s) where
     unfolding passed-one
     passes = sym (cond-true (ltb (r .from) (r .to)) _ s (lt-ltb (r .from) (r .to) more)) ∙ chosen (λ y. past s (y .from + 1)) (λ _. s)
 
-    pub reads : (x : Result Worded Fault) → x ≡ text-of h (r .from) (token h (r .from)) → x ≡ text-read h s
+    pub reads : (x : Option Worded) → x ≡ text-of h (token h (r .from)) → okOr x (Wrong wanted.String (r .from)) ≡ text-read h s
     unfolding text-read
-    reads x e = e ∙ sym (cond-true (ltb (r .from) (r .to)) _ _ (lt-ltb (r .from) (r .to) more))
-        ∙ chosen (λ y. text-of h (y .from) (token h (y .from))) (λ y. Err (Ended wanted.String (valueOr (y .last) 0)))
+    reads x e = ap (λ (y : Option Worded). okOr y (Wrong wanted.String (r .from))) e ∙ sym (cond-true (ltb (r .from) (r .to)) _ _ (lt-ltb (r .from) (r .to) more))
+        ∙ chosen (λ y. okOr (text-of h (token h (y .from))) (Wrong wanted.String (y .from))) (λ y. Err (Ended wanted.String (valueOr (y .last) 0)))
 
   module _ (no-more : r .to ≤ r .from) where
     pub peeks-none : None ≡ peeked h s
@@ -52,7 +66,7 @@ module _ (h : Parts) (s : Spot) (r : Rest) (is : r ≡ rest h s) where
     pub ends : Err (Ended wanted.String (valueOr (r .last) 0)) ≡ text-read h s
     unfolding text-read
     ends = sym (cond-false (ltb (r .from) (r .to)) _ _ (le-ltb (r .from) (r .to) no-more))
-        ∙ chosen (λ y. text-of h (y .from) (token h (y .from))) (λ y. Err (Ended wanted.String (valueOr (y .last) 0)))
+        ∙ chosen (λ y. okOr (text-of h (token h (y .from))) (Wrong wanted.String (y .from))) (λ y. Err (Ended wanted.String (valueOr (y .last) 0)))
 
 -- after a text read
 pub text-passes : (h : Parts) (s : Spot) (t : Worded) → Ok t ≡ text-read h s → passed-one h s ≡ text-after h s
