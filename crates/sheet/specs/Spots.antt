@@ -34,13 +34,13 @@ is-run h p e = leb p e && (leb e 1 || some-holds (h .records) p e)
 
 -- SPOTS
 abbrev pub body-of : ℕ → Group → Body
-body-of i g = record { group = i; first = g .first; end = g .first + g .count }
+body-of i g = record { parent = i; from = g .first; to = g .first + g .count }
 
 abbrev pub at-root : Spot
 at-root = record { group = 0; first = 0; place = 0; end = 1 }
 
 abbrev pub at-body : Body → Spot
-at-body b = record { group = b .group; first = b .first; place = b .first; end = b .end }
+at-body b = record { group = b .parent; first = b .from; place = b .from; end = b .to }
 
 abbrev pub past : Spot → ℕ → Spot
 past s q = record { group = s .group; first = s .first; place = q; end = s .end }

@@ -3,12 +3,12 @@ ghost use Prim.Native.Nat.{_+_, _^_, _<_};
 ghost use Rattle.sheet.specs.Spots.{at-root, at-body, past, body-of};
 use crate::token::Group;
 
-// The body of a group: its records are those from `first` up to `end`.
+// The body of a group: the group's record, and the records from `from` up to `to`.
 #[derive(Clone, Copy)]
 pub struct Body {
-    group: usize,
-    first: usize,
-    end: usize,
+    parent: usize,
+    from: usize,
+    to: usize,
 }
 
 // Where a cursor stands, in plain numbers and with no sheet: its run is the records from `first` up to `end`,
@@ -30,34 +30,36 @@ pub struct Rest {
 }
 
 impl Body {
-    pub(crate) fn new(group: usize, token: Group) -> Body
+    pub(crate) fn new(parent: usize, token: Group) -> Body
         requires { ⌜ token .first + token .count < 2 ^ 64 ⌝ }
-        ensures { λ r. ⌜ r ≡ body-of group token ⌝ }
+        ensures { λ r. ⌜ r ≡ body-of parent token ⌝ }
     {
         Body {
-            group,
-            first: token.first,
-            end: token.first + token.count,
+            parent,
+            from: token.first,
+            to: token.first + token.count,
         }
     }
 
     // The record of its group.
-    pub fn group(&self) -> usize
-        ensures { λ r. ⌜ r ≡ now (self .entry) .group ⌝ }
+    pub fn parent(&self) -> usize
+        ensures { λ r. ⌜ r ≡ now (self .entry) .parent ⌝ }
     {
-        self.group
+        self.parent
     }
 
-    pub fn first(&self) -> usize
-        ensures { λ r. ⌜ r ≡ now (self .entry) .first ⌝ }
+    // Its first record.
+    pub fn from(&self) -> usize
+        ensures { λ r. ⌜ r ≡ now (self .entry) .from ⌝ }
     {
-        self.first
+        self.from
     }
 
-    pub fn end(&self) -> usize
-        ensures { λ r. ⌜ r ≡ now (self .entry) .end ⌝ }
+    // The record after its last.
+    pub fn to(&self) -> usize
+        ensures { λ r. ⌜ r ≡ now (self .entry) .to ⌝ }
     {
-        self.end
+        self.to
     }
 }
 
@@ -79,10 +81,10 @@ impl Spot {
         ensures { λ r. ⌜ r ≡ at-body body ⌝ }
     {
         Spot {
-            group: body.group,
-            first: body.first,
-            place: body.first,
-            end: body.end,
+            group: body.parent,
+            first: body.from,
+            place: body.from,
+            end: body.to,
         }
     }
 

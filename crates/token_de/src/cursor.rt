@@ -63,9 +63,9 @@ impl TokenDe {
         if rest.from >= rest.to {
             return None;
         }
-        let tree = sheet.tree(rest.from)?;
+        let passed = sheet.tree(rest.from)?;
         self.at = self.at.past(rest.from + 1);
-        Some((rest.from, tree))
+        Some((rest.from, passed))
     }
 
     // The text of the next token, an identifier or a string literal, which is passed.

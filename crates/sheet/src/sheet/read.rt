@@ -53,8 +53,16 @@ impl<'a> Sheet<'a> {
         ensures { λ r. ⌜ text-shown r ≡ text-of (held (now (self .entry))) (token (held (now (self .entry))) at) ⌝ }
     {
         match self.token_at(at) {
-            Token::Ident(part) => Some(Text { pool: Pool::Names, start: part.start, bytes: cut(self.names, part) }),
-            Token::String(part) => Some(Text { pool: Pool::Strings, start: part.start, bytes: cut(self.strings, part) }),
+            Token::Ident(part) => Some(Text {
+                pool: Pool::Names,
+                start: part.start,
+                bytes: cut(self.names, part),
+            }),
+            Token::String(part) => Some(Text {
+                pool: Pool::Strings,
+                start: part.start,
+                bytes: cut(self.strings, part),
+            }),
             _ => None,
         }
     }
@@ -85,7 +93,11 @@ impl<'a> Sheet<'a> {
     pub fn text(&self, at: usize) -> Option<Text<'a>>
         ensures { λ r. ⌜ text-shown r ≡ cond (ltb at (length (held (now (self .entry)) .records))) (text-of (held (now (self .entry))) (token (held (now (self .entry))) at)) None ⌝ }
     {
-        if at < self.records.len() { self.text_at(at) } else { None }
+        if at < self.records.len() {
+            self.text_at(at)
+        } else {
+            None
+        }
     }
 
     // Where record `at` stood in the source, if there is such a record.

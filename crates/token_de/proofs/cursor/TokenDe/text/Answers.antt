@@ -25,7 +25,7 @@ returns-in-rest c =
     let s = c .args .self .now .at in
     let i = c .rest-rest .result .from in
     let e : Err (Wrong wanted.String i) ≡ text-read h s = reads h s (c .rest-rest .result) (c .rest-rest .ensures .is) (c .if-rest .left) None
-          (c .in-rest .ensures tt ∙ there h i (omega (arith, c .if-rest .left, c .rest-rest .ensures .within)) (text-of h (token h i))) in
+    (c .in-rest .ensures tt ∙ there h i (omega (arith, c .if-rest .left, c .rest-rest .ensures .within)) (text-of h (token h i))) in
     record { answer = e; passes = text-stays h s (Wrong wanted.String i) e }
 
 pub returns : need.returns
@@ -34,5 +34,5 @@ returns c =
     let s = c .args .self .now .at in
     let i = c .rest-rest .result .from in
     let e : Ok (worded (c .in-Some .text)) ≡ text-read h s = reads h s (c .rest-rest .result) (c .rest-rest .ensures .is) (c .if-rest .left) (Some (worded (c .in-Some .text)))
-          (c .in-Some .ensures tt ∙ there h i (omega (arith, c .if-rest .left, c .rest-rest .ensures .within)) (text-of h (token h i))) in
+    (c .in-Some .ensures tt ∙ there h i (omega (arith, c .if-rest .left, c .rest-rest .ensures .within)) (text-of h (token h i))) in
     record { answer = e; passes = c .past-self .ensures ∙ passes h s (c .rest-rest .result) (c .rest-rest .ensures .is) (c .if-rest .left) ∙ text-passes h s (worded (c .in-Some .text)) e }
