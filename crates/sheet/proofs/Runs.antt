@@ -64,15 +64,15 @@ run-is h p e ok =
       within = ⊎-elim (λ low. inl (leb-true e 1 low)) (λ some. inr (which-holds (h .records) p e some)) (or-cases (leb e 1) _ (two .1));
     }
 
--- a shorter part of a run is a run
-pub part-run : (h : Parts) (p q e : ℕ) → p ≤ q → q ≤ e → Run h p e → Run h q e
-part-run h p q e low high r = record {
-  order = high;
-  within = ⊎-elim (λ (l : e ≤ 1). inl l) (λ b. inr (b .0, b .1, later (entry (h .records) (b .0)) (b .2))) (r .within);
+-- a part of a run is a run
+pub run-part : (h : Parts) (p e q f : ℕ) → Run h p e → p ≤ q → q ≤ f → f ≤ e → Run h q f
+run-part h p e q f r low mid high = record {
+  order = mid;
+  within = ⊎-elim (λ (l : e ≤ 1). inl (omega arith)) (λ b. inr (b .0, b .1, part (entry (h .records) (b .0)) (b .2))) (r .within);
 }
   where
-    later : (x : Record) → holds x p e ≡ true → holds x q e ≡ true
-    later x ok = grind (arith, tells)
+    part : (x : Record) → holds x p e ≡ true → holds x q f ≡ true
+    part x ok = grind (arith, tells)
 
 -- a sheet has a record 0
 pub has-root : (h : Parts) → kept limits h ≡ true → 0 < length (h .records)
@@ -104,7 +104,7 @@ module _ (h : Parts) (s : Spot) (lawful : kept limits h ≡ true) where
       let low : s .place ≤ s .end = leb-true (s .place) (s .end) (b .1) in
       record {
         is = sym (cond-true (stands h s) _ _ on);
-        run = part-run h (s .first) (s .place) (s .end) (leb-true (s .first) (s .place) (b .0)) low run;
+        run = run-part h (s .first) (s .end) (s .place) (s .end) run (leb-true (s .first) (s .place) (b .0)) low (omega arith);
         within = fits;
         passed = cond-both (ltb (s .first) (s .place)) _ _ (Passed h) (λ l. omega (arith, fits, low, ltb-true (s .first) (s .place) l)) (λ _. tt);
       }

@@ -1,1 +1,4 @@
 mod Cursors
+pub mod Trees
+pub mod Customs
+pub mod Words

@@ -15,7 +15,7 @@ use sheet::tree::Tree;
 // have the run, nothing is left and nothing was passed.
 #[derive(Clone, Copy, PartialEq, Eq)]
 pub struct TokenDe {
-    at: Spot,
+    pub(crate) at: Spot,
 }
 
 impl TokenDe {

@@ -1,5 +1,5 @@
 ghost use mathlib.Core.Path.{_≡_};
-ghost use Rattle.token_de.specs.Faults.{number, at, detail, wanted-number};
+ghost use Rattle.token_de.specs.Faults.{number, at, detail, wanted-number, data-number};
 use std::fmt;
 
 // What a read wanted of a token.
@@ -15,6 +15,13 @@ pub enum Wanted {
     Unit,
 }
 
+// What is wrong with data whose tokens fit.
+#[derive(Clone, Copy, PartialEq, Eq, Debug)]
+pub enum DataFault {
+    // a customer's seed says so, with a number from 100 to 255
+    Custom(u8),
+}
+
 // Why a read is refused, and at which record.
 #[derive(Clone, Copy, PartialEq, Eq, Debug)]
 pub enum Fault {
@@ -22,6 +29,8 @@ pub enum Fault {
     Wrong(Wanted, usize),
     // no token is left after this one
     Ended(Wanted, usize),
+    // the data are wrong; it arises at record 0
+    Data(DataFault, usize),
 }
 
 impl Wanted {
@@ -42,6 +51,17 @@ impl Wanted {
     }
 }
 
+impl DataFault {
+    // Its number, which is the detail of a refusal.
+    pub fn number(&self) -> u8
+        ensures { λ r. ⌜ r ≡ data-number (now (self .entry)) ⌝ }
+    {
+        match self {
+            DataFault::Custom(number) => *number,
+        }
+    }
+}
+
 impl Fault {
     // Its number among the refusals.
     pub fn number(&self) -> u8
@@ -50,6 +70,7 @@ impl Fault {
         match self {
             Fault::Wrong(_, _) => 10,
             Fault::Ended(_, _) => 11,
+            Fault::Data(_, _) => 17,
         }
     }
 
@@ -60,16 +81,18 @@ impl Fault {
         match self {
             Fault::Wrong(_, record) => *record,
             Fault::Ended(_, record) => *record,
+            Fault::Data(_, record) => *record,
         }
     }
 
-    // The number of what was wanted.
+    // The number of what was wanted, or of what is wrong with the data.
     pub fn detail(&self) -> u8
         ensures { λ r. ⌜ r ≡ detail (now (self .entry)) ⌝ }
     {
         match self {
             Fault::Wrong(wanted, _) => wanted.number(),
             Fault::Ended(wanted, _) => wanted.number(),
+            Fault::Data(fault, _) => fault.number(),
         }
     }
 }
@@ -89,6 +112,14 @@ pub impl fmt::Display for Wanted as WantedDisplay {
     }
 }
 
+pub impl fmt::Display for DataFault as DataFaultDisplay {
+    fn fmt<W: fmt::Write>(&self, f: &mut fmt::Formatter<W>) -> fmt::Result {
+        match self {
+            DataFault::Custom(number) => write!(f, "the value is not allowed (reason {number})"),
+        }
+    }
+}
+
 pub impl fmt::Display for Fault as FaultDisplay {
     fn fmt<W: fmt::Write>(&self, f: &mut fmt::Formatter<W>) -> fmt::Result {
         match self {
@@ -100,6 +131,7 @@ pub impl fmt::Display for Fault as FaultDisplay {
                 f,
                 "expected {wanted} after record {record}, but nothing is left"
             ),
+            Fault::Data(fault, record) => write!(f, "{fault} at record {record}"),
         }
     }
 }
