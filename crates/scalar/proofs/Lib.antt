@@ -1,0 +1,2 @@
+mod Tokens
+mod Numbers

@@ -1,0 +1,9 @@
+pub mod Bools
+pub mod Chars
+pub mod Texts
+pub mod Units
+pub mod Integers
+pub mod Unsigneds
+pub mod Numbers
+pub mod Signeds
+pub mod Floats
