@@ -3,7 +3,12 @@ use mathlib.Core.Path.{_≡_}
 use Prim.Native.Nat.{ℕ}
 use Rattle.std.specs.declared.option.Option.{Option}
 use Rattle.std.specs.declared.option.Option.the-variants.{Some, None}
-use Rattle.layout.specs.Rules.{Parts}
+use Rattle.std.specs.declared.result.Result.the-variants.{Ok, Err}
+use Rattle.layout.specs.Rules.{Parts, limits, Kept}
+use Rattle.sheet.specs.declared.spot.Spot.{Spot}
+use Rattle.sheet.specs.Spots.{rest}
+use Rattle.token_de.specs.Cursors.{text-read}
+use Rattle.token_de.specs.declared.fault.Fault.{Fault}
 use Rattle.sheet.specs.declared.text.Pool.{Pool}
 use Rattle.sheet.specs.declared.text.Pool.the-variants.{Names, Strings}
 use Rattle.sheet.specs.declared.token.Part.{Part}
@@ -11,7 +16,7 @@ use Rattle.sheet.specs.declared.token.Token.{Token}
 use Rattle.sheet.specs.declared.token.Token.the-variants as tokens
 use Rattle.sheet.specs.Tokens.{token}
 use Rattle.token_de.specs.declared.fault.Wanted.the-variants as wanted
-use Rattle.token_de.specs.Meaning.{Meaning, Grammar}
+use Rattle.token_de.specs.Meaning.{Answer, Meaning, Grammar}
 use Rattle.token_de.specs.Steps.{single, One}
 use Rattle.scalar.specs.declared.text.TextPart.{TextPart}
 
@@ -56,3 +61,11 @@ Identifier-word = One Is-identifier
 
 abbrev pub String-word : Grammar TextPart
 String-word = One Is-text
+
+-- THE TEXT READ of a cursor is refused exactly as the string seed is
+abbrev pub refusal : {X : Type 0} → Answer X → Option Fault
+refusal (Ok x) = None
+refusal (Err f) = Some f
+
+abbrev pub Text-refused-as-string : Type 0
+Text-refused-as-string = (h : Parts) (s : Spot) → Kept limits h → refusal (text-read h s) ≡ refusal (string-read h (rest h s .from) (rest h s .to) (rest h s .last))

@@ -1,4 +1,4 @@
-ghost use Rattle.scalar.specs.Texts.{identifier-read, Identifier-word, string-read, String-word};
+ghost use Rattle.scalar.specs.Texts.{identifier-read, Identifier-word, string-read, String-word, Text-refused-as-string};
 use sheet::sheet::Sheet;
 use sheet::spot::Rest;
 use sheet::text::Pool;
@@ -83,3 +83,8 @@ pub impl Seed for Str as StrSeed {
 pub impl Words for Str as StrWords {
     ghost word = { λ _. String-word };
 }
+
+// The text read of a cursor is refused exactly as this seed is.
+pub fn text_refused_as_str()
+    ensures { λ _. ⌜ Text-refused-as-string ⌝ }
+{}
