@@ -1,2 +1,3 @@
 mod Tokens
 mod Numbers
+pub mod Spellings

@@ -23,7 +23,7 @@ fn is_spelled(name: &[u8], bytes: &[u8]) -> bool
 }
 
 // The truth value that a name spells, if it does.
-fn spelled(name: &[u8]) -> Option<bool>
+pub fn spelled(name: &[u8]) -> Option<bool>
     ensures { λ r. ⌜ r ≡ truth (now (name .entry)) ⌝ }
 {
     if is_spelled(name, b"true") {

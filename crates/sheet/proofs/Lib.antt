@@ -1,3 +1,3 @@
 mod Made
-mod Lines
+pub mod Lines
 pub mod Runs

@@ -1,5 +1,6 @@
-// Loads a sheet file and prints its records as a tree.
+// Loads a sheet file, prints its records as a tree, and then the values of the scalar members of record 0.
 mod failure;
+mod members;
 mod show;
 mod walk;
 
@@ -8,6 +9,8 @@ use crate::failure::FailureDisplay;
 use crate::failure::FailureFromAlloc;
 use crate::failure::FailureFromIo;
 use crate::failure::FailureFromLoad;
+use crate::members::Pools;
+use crate::members::print_members;
 use crate::walk::walk;
 use layout::limits::LIMITS;
 use layout::record::Record;
@@ -73,15 +76,8 @@ fn print_head(rt: &LibcRuntime, loaded: &Loaded) -> Result<(), Failure> {
 }
 
 // Prints the tree of a sheet, and how many of its records were walked: all of them, or it is a failure.
-fn print_tree<'a>(
-    rt: &LibcRuntime,
-    count: usize,
-    table: &'a [Record],
-    names: &'a [u8],
-    strings: &'a [u8],
-) -> Result<(), Failure> {
-    let sheet = Sheet::new(count, table, names, strings);
-    let walked = walk(rt, &sheet)?;
+fn print_tree(rt: &LibcRuntime, sheet: &Sheet, count: usize) -> Result<(), Failure> {
+    let walked = walk(rt, sheet)?;
     if walked != count {
         return Err(Failure::Unwalked(walked, count));
     }
@@ -89,12 +85,24 @@ fn print_tree<'a>(
     Ok(())
 }
 
+fn print_sheet<'a>(
+    rt: &LibcRuntime,
+    count: usize,
+    table: &'a [Record],
+    names: &'a [u8],
+    strings: &'a [u8],
+) -> Result<(), Failure> {
+    let sheet = Sheet::new(count, table, names, strings);
+    print_tree(rt, &sheet, count)?;
+    print_members(rt, &sheet, Pools { names, strings })
+}
+
 fn run(rt: &LibcRuntime) -> Result<(), Failure> {
     let file = read_file(rt, path_given(rt)?)?;
     let mut table = vec![in rt.alloc(); BLANK; LIMITS.records]?;
     let loaded = load(file.as_slice(), table.as_mut_slice())?;
     print_head(rt, &loaded)?;
-    print_tree(
+    print_sheet(
         rt,
         loaded.count,
         table.as_slice(),

@@ -24,19 +24,25 @@ fn show_byte<W: fmt::Write>(byte: u8, f: &mut fmt::Formatter<W>) -> fmt::Result 
     }
 }
 
-fn show_bytes<W: fmt::Write>(bytes: &[u8], f: &mut fmt::Formatter<W>) -> fmt::Result {
+pub fn show_bytes<W: fmt::Write>(bytes: &[u8], f: &mut fmt::Formatter<W>) -> fmt::Result {
     for byte in bytes {
         show_byte(*byte, f)?;
     }
     Ok(())
 }
 
-fn show_char<W: fmt::Write>(char: char, f: &mut fmt::Formatter<W>) -> fmt::Result {
+pub fn show_string<W: fmt::Write>(text: &[u8], f: &mut fmt::Formatter<W>) -> fmt::Result {
+    write!(f, "\"")?;
+    show_bytes(text, f)?;
+    write!(f, "\"")
+}
+
+pub fn show_char<W: fmt::Write>(char: char, f: &mut fmt::Formatter<W>) -> fmt::Result {
     let code = char as u32;
     match char {
-        '\'' | '\\' => write!(f, "char '\\{char}'"),
-        ' '..='~' => write!(f, "char '{char}'"),
-        _ => write!(f, "char '\\u{{{code:x}}}'"),
+        '\'' | '\\' => write!(f, "'\\{char}'"),
+        ' '..='~' => write!(f, "'{char}'"),
+        _ => write!(f, "'\\u{{{code:x}}}'"),
     }
 }
 
@@ -47,7 +53,10 @@ fn show_float<W: fmt::Write>(bits: u64, f: &mut fmt::Formatter<W>) -> fmt::Resul
 
 fn show_literal<W: fmt::Write>(literal: Literal, f: &mut fmt::Formatter<W>) -> fmt::Result {
     match literal {
-        Literal::Char(char) => show_char(char, f),
+        Literal::Char(char) => {
+            write!(f, "char ")?;
+            show_char(char, f)
+        }
         Literal::Integer(integer) => match integer.magnitude {
             Some(magnitude) => write!(f, "integer {magnitude}"),
             None => write!(f, "integer over 64 bits"),
@@ -92,9 +101,8 @@ fn show_tree<W: fmt::Write>(tree: Tree, f: &mut fmt::Formatter<W>) -> fmt::Resul
             show_bytes(name, f)
         }
         Tree::String(text) => {
-            write!(f, "string \"")?;
-            show_bytes(text, f)?;
-            write!(f, "\"")
+            write!(f, "string ")?;
+            show_string(text, f)
         }
         Tree::Punct(punct) => write!(f, "punct {}", punct.as_char()),
         Tree::Literal(literal) => show_literal(literal, f),

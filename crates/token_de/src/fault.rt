@@ -13,6 +13,8 @@ pub enum Wanted {
     String,
     Identifier,
     Unit,
+    Content,
+    ContentInteger,
 }
 
 // What is wrong with data whose tokens fit.
@@ -29,6 +31,16 @@ pub enum Fault {
     Wrong(Wanted, usize),
     // no token is left after this one
     Ended(Wanted, usize),
+    // this group has no marks and holds nothing
+    Empty(usize),
+    // no `=` is behind a key: this token is there, or this key was the last
+    NoEquals(usize),
+    // neither a comma nor the end is behind an element: this token is
+    NoSeparator(usize),
+    // this token is behind the one word of a group with no marks
+    Leftover(usize),
+    // this literal has no value
+    Unreadable(usize),
     // the data are wrong; it arises at record 0
     Data(DataFault, usize),
 }
@@ -47,6 +59,8 @@ impl Wanted {
             Wanted::String => 6,
             Wanted::Identifier => 7,
             Wanted::Unit => 8,
+            Wanted::Content => 15,
+            Wanted::ContentInteger => 16,
         }
     }
 }
@@ -70,6 +84,11 @@ impl Fault {
         match self {
             Fault::Wrong(_, _) => 10,
             Fault::Ended(_, _) => 11,
+            Fault::Empty(_) => 12,
+            Fault::NoEquals(_) => 13,
+            Fault::NoSeparator(_) => 14,
+            Fault::Leftover(_) => 15,
+            Fault::Unreadable(_) => 16,
             Fault::Data(_, _) => 17,
         }
     }
@@ -81,17 +100,27 @@ impl Fault {
         match self {
             Fault::Wrong(_, record) => *record,
             Fault::Ended(_, record) => *record,
+            Fault::Empty(record) => *record,
+            Fault::NoEquals(record) => *record,
+            Fault::NoSeparator(record) => *record,
+            Fault::Leftover(record) => *record,
+            Fault::Unreadable(record) => *record,
             Fault::Data(_, record) => *record,
         }
     }
 
-    // The number of what was wanted, or of what is wrong with the data.
+    // The number of what was wanted, or of what is wrong with the data; 0 for the others.
     pub fn detail(&self) -> u8
         ensures { λ r. ⌜ r ≡ detail (now (self .entry)) ⌝ }
     {
         match self {
             Fault::Wrong(wanted, _) => wanted.number(),
             Fault::Ended(wanted, _) => wanted.number(),
+            Fault::Empty(_) => 0,
+            Fault::NoEquals(_) => 0,
+            Fault::NoSeparator(_) => 0,
+            Fault::Leftover(_) => 0,
+            Fault::Unreadable(_) => 0,
             Fault::Data(fault, _) => fault.number(),
         }
     }
@@ -108,6 +137,8 @@ pub impl fmt::Display for Wanted as WantedDisplay {
             Wanted::String => write!(f, "a string"),
             Wanted::Identifier => write!(f, "an identifier"),
             Wanted::Unit => write!(f, "an empty pair of parentheses"),
+            Wanted::Content => write!(f, "a value"),
+            Wanted::ContentInteger => write!(f, "an integer of 64 bits"),
         }
     }
 }
@@ -131,6 +162,17 @@ pub impl fmt::Display for Fault as FaultDisplay {
                 f,
                 "expected {wanted} after record {record}, but nothing is left"
             ),
+            Fault::Empty(record) => write!(f, "the group at record {record} holds no value"),
+            Fault::NoEquals(record) => write!(f, "expected `=` behind a key at record {record}"),
+            Fault::NoSeparator(record) => write!(
+                f,
+                "expected a comma or the end, but found another token at record {record}"
+            ),
+            Fault::Leftover(record) => write!(
+                f,
+                "expected the end of a group, but found another token at record {record}"
+            ),
+            Fault::Unreadable(record) => write!(f, "the literal at record {record} has no value"),
             Fault::Data(fault, record) => write!(f, "{fault} at record {record}"),
         }
     }

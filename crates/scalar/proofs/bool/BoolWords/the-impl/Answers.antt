@@ -1,13 +1,10 @@
-use mathlib.Core.Path.{_≡_, refl, sym, ap, _∙_}
-use mathlib.Core.Bool.{Bool, true, false, cond}
-use mathlib.Core.List.{List, List·isSet}
+use mathlib.Core.Path.{_≡_, refl, ap, _∙_}
+use mathlib.Core.Bool.{Bool}
+use mathlib.Core.List.{List·isSet}
 use Prim.Native.Nat.{ℕ}
 use native.Mathlib.Nat.{ℕ-set}
 use native.Mathlib.Omega.{arith}
-use lib.Chars.{codes}
-use Rattle.std.proofs.shelf.Equals.{sameBytes-decides}
-use Rattle.std.specs.shelf.Text.{sameBytes}
-use Rattle.std.specs.declared.option.Option.the-variants.{Some, None}
+use Rattle.std.specs.declared.option.Option.the-variants.{Some}
 use Rattle.layout.specs.Rules.{Parts}
 use Rattle.sheet.specs.declared.token.Part.{Part}
 use Rattle.sheet.specs.declared.token.Token.{Token}
@@ -16,21 +13,9 @@ use Rattle.sheet.specs.Tokens.{token, bytes-of}
 use Rattle.token_de.specs.declared.fault.Wanted.the-variants as wanted
 use Rattle.token_de.proofs.Trees.{single-exact}
 use Rattle.scalar.specs.Bools.{truth, bool-of, spelling, Is-bool}
+use Rattle.scalar.proofs.Spellings.{spells, spelt}
 use Rattle.scalar.proofs.Tokens.{token-one}
 use Rattle.scalar.proofs.bool.BoolWords.the-impl.Needs as need
-
--- a name that spells a truth value is its spelling
-spells : (name : List ℕ) (v : Bool) → truth name ≡ Some v → name ≡ spelling v
-spells name v is = go (sameBytes name (codes "true")) (sameBytes name (codes "false")) refl refl is
-  where
-    go : (a b : Bool) → sameBytes name (codes "true") ≡ a → sameBytes name (codes "false") ≡ b → cond a (Some true) (cond b (Some false) None) ≡ Some v → name ≡ spelling v
-    go true b yes-a e k = let same : true ≡ v = cc in sameBytes-decides name (codes "true") .0 yes-a ∙ ap spelling same
-    go false true e yes-b k = let same : false ≡ v = cc in sameBytes-decides name (codes "false") .0 yes-b ∙ ap spelling same
-    go false false e f k = absurd (let z : _≡_ {A = ℕ} 0 1 = cc in omega arith)
-
-spelt : (v : Bool) → truth (spelling v) ≡ Some v
-spelt true = refl
-spelt false = refl
 
 read-so : (h : Parts) (t : Token) (v : Bool) → bool-of h t ≡ Some v → (part : Part) × (t ≡ tokens.Ident part) × (bytes-of (h .names) part ≡ spelling v)
 read-so h (tokens.Ident p) v is = (p, refl, spells (bytes-of (h .names) p) v is)

@@ -1,0 +1,2 @@
+// Serde's accesses as moved states of plain numbers: each call spends a state and answers the next.
+pub mod map_access;

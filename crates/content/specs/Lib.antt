@@ -1,0 +1,4 @@
+pub mod Levels
+pub mod Bodies
+pub mod Contents
+pub mod Trees
