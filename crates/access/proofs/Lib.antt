@@ -1,3 +1,4 @@
 mod Takes
 mod Nested
 mod Ledger
+mod Talks

@@ -1,3 +1,5 @@
 pub mod Plain
+pub mod Elements
 pub mod Nested
 pub mod Calls
+pub mod Talks

@@ -1,8 +1,7 @@
 ghost use Rattle.even.specs.Evens.{even-read};
+use scalar::integer::magnitude_of;
 use sheet::sheet::Sheet;
 use sheet::spot::Rest;
-use sheet::token::Literal;
-use sheet::token::Token;
 use token_de::fault::DataFault;
 use token_de::fault::Fault;
 use token_de::fault::Wanted;
@@ -23,12 +22,8 @@ pub impl Seed for Even as EvenSeed {
     ghost meaning = { λ _. even-read };
 
     fn read(&self, sheet: &Sheet, rest: Rest) -> Result<Taken<u64>, Fault> {
-        let wrong = Fault::Wrong(Wanted::Unsigned, rest.from);
-        let Token::Literal(Literal::Integer(integer)) = next_token(sheet, rest, Wanted::Unsigned)?
-        else {
-            return Err(wrong);
-        };
-        let value = integer.magnitude.ok_or(wrong)?;
+        let token = next_token(sheet, rest, Wanted::Unsigned)?;
+        let value = magnitude_of(token).ok_or(Fault::Wrong(Wanted::Unsigned, rest.from))?;
         if value % 2 == 0 {
             Ok(Taken { count: 1, value })
         } else {

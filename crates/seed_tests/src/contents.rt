@@ -157,6 +157,10 @@ fn deepest() -> [Record; 33] {
 #[test]
 fn content_reaches_the_deepest_level() -> Result<(), Fail> {
     check_both(&deepest(), Datum::List(Counted { group: 1, count: 1 }), 1)?;
+    let mut less_deep = deepest();
+    less_deep[31] = group(2, 32, 1);
+    less_deep[32] = integer(1);
+    check_both(&less_deep, Datum::List(Counted { group: 1, count: 1 }), 1)?;
     let mut wrong = deepest();
     wrong[32] = punct(b'=');
     check_neither(&wrong, (10, 32, 15))

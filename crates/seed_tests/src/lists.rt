@@ -4,6 +4,8 @@ use crate::reads::*;
 use access::map_access::KeyTurn;
 use access::map_access::NextKey;
 use access::map_access::ValueTurn;
+use access::seq_access::Elements;
+use access::seq_access::NextElement;
 use even::even::Even;
 use even::even::EvenSeed;
 use layout::record::Record;
@@ -154,4 +156,34 @@ fn a_value_names_its_data_fault() -> Result<(), Fail> {
         return Err(Fail::new("even"));
     };
     check_eq(refusal(fault), (17, 3, 100))
+}
+
+// How many signed integers a body has as a list, or how many come before which refusal.
+fn count_elements(sheet: &Sheet, body: Body) -> Result<usize, (usize, Refusal)> {
+    let mut left = Elements::within(body);
+    for read in 0..9usize {
+        left = match left.next_element_seed(sheet, &Signed::I64) {
+            Ok(NextElement::Element(_, next)) => next,
+            Ok(NextElement::None(_)) => return Ok(read),
+            Err((_, fault)) => return Err((read, refusal(fault))),
+        };
+    }
+    Err((9, (0, 0, 0)))
+}
+
+fn check_elements(records: &[Record], want: Result<usize, (usize, Refusal)>) -> Result<(), Fail> {
+    let sheet = sheet_of(records);
+    check_eq(count_elements(&sheet, body_of(&sheet, records)?), want)
+}
+
+#[test]
+fn elements_end_at_a_comma_or_the_end() -> Result<(), Fail> {
+    let comma = punct(b',');
+    let one = integer(1);
+    check_elements(&[root(0)], Ok(0))?;
+    check_elements(&[root(3), one, comma, one], Ok(2))?;
+    check_elements(&[root(4), one, comma, one, comma], Ok(2))?;
+    check_elements(&[root(3), one, comma, comma], Err((1, (10, 3, 2))))?;
+    check_elements(&[root(2), one, one], Err((0, (14, 2, 0))))?;
+    check_elements(&[root(2), one, punct(b'=')], Err((0, (14, 2, 0))))
 }

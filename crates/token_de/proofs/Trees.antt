@@ -1,6 +1,6 @@
 -- Seeds that take one tree. Assumes nothing.
 use mathlib.Core.Path.{_≡_, PathP, toPathP, refl, sym, ap, subst, _∙_}
-use mathlib.Core.Bool.{true, false, cond}
+use mathlib.Core.Bool.{Bool, true, false, cond}
 use mathlib.Core.Logic.{_⊎_, inl, inr, ⊎-elim}
 use mathlib.Core.HLevel.{×-prop}
 use Prim.Native.Nat.{ℕ, _+_, _-_, _≤_, _<_}
@@ -25,10 +25,11 @@ use Rattle.sheet.specs.Trees.{if-there}
 use Rattle.sheet.proofs.Runs.{run-fits, has-root}
 use Rattle.token_de.specs.declared.seed.Taken.{Taken}
 use Rattle.token_de.specs.declared.fault.Fault.{Fault}
-use Rattle.token_de.specs.declared.fault.Fault.the-variants.{Wrong, Ended}
+use Rattle.token_de.specs.declared.fault.Fault.the-variants.{Wrong, Ended, Data}
+use Rattle.token_de.specs.declared.fault.DataFault.the-variants.{Custom}
 use Rattle.token_de.specs.declared.fault.Wanted.{Wanted}
 use Rattle.token_de.specs.Meaning.{Answer, Meaning, Proper, Lawful, Grammar, Exact}
-use Rattle.token_de.specs.Steps.{_then_, next, tree, single, One}
+use Rattle.token_de.specs.Steps.{_then_, next, tree, single, tested, One}
 
 pub token-set : IsSet Token
 token-set = coded-set (the-row .coded)
@@ -147,3 +148,16 @@ module _ {V : Type 0} (wanted : Wanted) (f : Parts → Token → Option V) where
         (λ h p v is. f-sound h p v (or-some (f h (token h p)) p v is))
         (λ h p v w. ap (λ (o : Option V). okOr o (Wrong wanted p)) (f-complete h p v w))
         f-one
+
+-- a single token whose value passes a test: it is a wrong token, or a data fault at record 0
+module _ {V : Type 0} (wanted : Wanted) (f : Parts → Token → Option V) (test : V → Bool) (detail : ℕ) (low : 100 ≤ detail) (high : detail ≤ 255) where
+  pub tested-lawful : Lawful (tested wanted f test detail)
+  tested-lawful = tree-lawful wanted (λ h p t. okOr (f h t) (Wrong wanted p) then (λ v. cond (test v) (Ok v) (Err (Data (Custom detail) 0))))
+      (λ h p x k in-range is. ⊎-elim
+      (λ none. subst (Proper h) (or-wrong wanted f (f h (token h p)) p x none) (record { inside = in-range; ranged = tt }))
+      (λ some. subst (Proper h) (failed (some .0) (test (some .0)) x (some .2)) (record { inside = has-root h (rules-kept limits h k); ranged = (low, high) }))
+      (then-err (okOr (f h (token h p)) (Wrong wanted p)) (λ v. cond (test v) (Ok v) (Err (Data (Custom detail) 0))) x is))
+    where
+      failed : (v : V) (b : Bool) (x : Fault) → cond b (Ok v) (Err (Data (Custom detail) 0)) ≡ Err x → Data (Custom detail) 0 ≡ x
+      failed v true x is = absurd (let z : _≡_ {A = ℕ} 0 1 = cc in omega arith)
+      failed v false x is = cc

@@ -1,6 +1,6 @@
 -- The steps that seeds are made of. Assumes nothing.
 use mathlib.Core.Path.{_≡_}
-use mathlib.Core.Bool.{cond}
+use mathlib.Core.Bool.{Bool, cond}
 use Prim.Native.Nat.{ℕ, _+_}
 use lib.Dec.{ltb}
 use Rattle.std.specs.declared.option.Option.{Option}
@@ -11,7 +11,8 @@ use Rattle.sheet.specs.declared.token.Token.{Token}
 use Rattle.sheet.specs.Tokens.{token}
 use Rattle.sheet.specs.Trees.{if-there}
 use Rattle.token_de.specs.declared.fault.Wanted.{Wanted}
-use Rattle.token_de.specs.declared.fault.Fault.the-variants.{Wrong, Ended}
+use Rattle.token_de.specs.declared.fault.Fault.the-variants.{Wrong, Ended, Data}
+use Rattle.token_de.specs.declared.fault.DataFault.the-variants.{Custom}
 use Rattle.token_de.specs.Meaning.{Answer, Meaning, Grammar}
 
 abbrev pub _then_ : {X Y : Type 0} → Answer X → (X → Answer Y) → Answer Y
@@ -30,6 +31,11 @@ tree wanted f h p e last = next wanted h p e last then (λ t. f h p t then (λ v
 -- one token, of which `f` makes the value if it fits; else it is a wrong one
 abbrev pub single : {V : Type 0} → Wanted → (Parts → Token → Option V) → Meaning V
 single wanted f = tree wanted (λ h p t. okOr (f h t) (Wrong wanted p))
+
+-- one token whose value also passes a test; a value that does not is a customer's data fault of this detail
+abbrev pub tested : {V : Type 0} → Wanted → (Parts → Token → Option V) → (V → Bool) → ℕ → Meaning V
+tested wanted f test detail =
+    tree wanted (λ h p t. okOr (f h t) (Wrong wanted p) then (λ v. cond (test v) (Ok v) (Err (Data (Custom detail) 0))))
 
 -- words of one tree, of which W says which it is
 abbrev pub One : {V : Type 0} → (Parts → ℕ → V → Type 0) → Grammar V

@@ -33,7 +33,7 @@ pub fn is_mark(sheet: &Sheet, punct: Punct, at: usize, to: usize) -> bool
 }
 
 // What a seed takes of a rest: at least one tree, and none past its end.
-fn take<S: Seed>(sheet: &Sheet, rest: Rest, seed: &S) -> Result<Taken<S::Value>, Fault>
+pub(crate) fn take<S: Seed>(sheet: &Sheet, rest: Rest, seed: &S) -> Result<Taken<S::Value>, Fault>
     requires { ⌜ Run (held (now sheet)) (rest .from) (rest .to) ⌝ }
     ensures value { λ r. ⌜ r ≡ S·Seed .meaning (now (seed .entry)) (held (now (sheet .entry))) (rest .from) (rest .to) (rest .last) ⌝ }
     ensures within { λ r. ⌜ Cases r (λ t. (0 < t .count) × (rest .from + t .count ≤ rest .to)) (λ _. Unit {0}) ⌝ }
@@ -66,6 +66,13 @@ impl KeyTurn {
         KeyTurn {
             at: Spot::within(body),
         }
+    }
+
+    // Where it stands.
+    pub(crate) fn at(&self) -> Spot
+        ensures { λ r. ⌜ r ≡ now (self .entry) .at ⌝ }
+    {
+        self.at
     }
 
     // Reads a key and the `=` after it; nothing is left: none. A refusal hands the same turn back.
