@@ -15,8 +15,8 @@ use Rattle.sheet.specs.Spots.{holds, some_holds, is_run, stands, Run, rest, past
 use Rattle.sheet.proofs.Lines.{group_line}
 use Rattle.sheet.proofs.Runs.{one_holds, run_is, run_part, rest_full, full}
 use Rattle.token_de.specs.declared.seed.Taken.{Taken}
-use Rattle.refusal.specs.declared.fault.InternalError.{InternalError}
-use Rattle.refusal.specs.declared.fault.InternalError.TheVariants.{Leftover}
+use Rattle.token_de.specs.declared.fault.Fault.{Fault}
+use Rattle.token_de.specs.declared.fault.Fault.TheVariants.{Leftover}
 use Rattle.token_de.specs.Meaning.{Answer, Meaning, Lawful}
 use Rattle.access.specs.Plain.{equals_mark, comma, is_mark, marked, Turn, key, value, over, Said, none, accepted, refused, Step, step, key_taken, key_read, value_taken, value_read, finished}
 use Rattle.access.specs.Nested.{InTree}
@@ -24,7 +24,7 @@ use Rattle.access.proofs.Nested.{trees_apart, in_body}
 use Rattle.access.specs.Calls.{Erased, State, Event, key_call, value_call, finish_call, lands, after, Answers, Calls, finally, number, trees, answer_of, taken, took, bit, takers, Follows, Marks, Marked, Accounted, Begins, ListLaw}
 
 -- the list stands in its run
-abbrev pub On : Parts → Spot → Type 0
+abbrev On : Parts → Spot → Type 0
 On h s = stands h s ≡ true
 
 false_true : {X : Type 0} → false ≡ true → X
@@ -37,20 +37,20 @@ mark_is c (tokens.String p) e = false_true e
 mark_is c (tokens.Literal l) e = false_true e
 mark_is c (tokens.Group g) e = false_true e
 
-pub marked_is : (h : Parts) (c : Punct) (q e : ℕ) → marked h c q e ≡ true → (q < e) × (token h q ≡ tokens.Punct c)
+marked_is : (h : Parts) (c : Punct) (q e : ℕ) → marked h c q e ≡ true → (q < e) × (token h q ≡ tokens.Punct c)
 marked_is h c q e ok =
     let a = and_parts (ltb q e) _ ok in
     let b = and_parts (ltb q (length h.records)) _ a.1 in
     (ltb-true q e a.0, mark_is c (token h q) b.1)
 
 -- a spot further on in its run stands there too
-pub on_later : (h : Parts) (s : Spot) (q : ℕ) → s.place ≤ q → q ≤ s.end → On h s → On h (past s q)
+on_later : (h : Parts) (s : Spot) (q : ℕ) → s.place ≤ q → q ≤ s.end → On h s → On h (past s q)
 on_later h s q low high on =
     let a = and_parts (is_run h s.first s.end) _ on in
     let b = and_parts (leb s.first s.place) _ a.1 in
     and_from _ _ a.0 (and_from _ _ (le-leb s.first q (omega (arith, leb-true s.first s.place b.0))) (le-leb q s.end high))
 
-pub on_within : (h : Parts) (s : Spot) → On h s → s.place ≤ s.end
+on_within : (h : Parts) (s : Spot) → On h s → s.place ≤ s.end
 on_within h s on =
     let a = and_parts (is_run h s.first s.end) _ on in
     leb-true s.place s.end (and_parts (leb s.first s.place) _ a.1).1
@@ -84,7 +84,7 @@ module _ (h : Parts) (m : Erased) (s : Spot) (k : Kept limits h) (on : On h s) (
   within t is = lawful.within h s.place s.end (last_passed s) t k told.run is
 
   key_after : (t : Taken (Unit {0})) → read ≡ Ok t → (b : Bool) → marked h equals_mark (s.place + t.count) s.end ≡ b →
-      (f : InternalError) → let d = cond b (step (accepted t.value) value (past s (s.place + t.count + 1))) (step (refused f) key s) in
+      (f : Fault) → let d = cond b (step (accepted t.value) value (past s (s.place + t.count + 1))) (step (refused f) key s) in
       Moved h equals_mark s (trees (Ok t) d.said) d.turn d.at
   key_after t is true ok f =
       let a = marked_is h equals_mark (s.place + t.count) s.end ok in
@@ -119,7 +119,7 @@ module _ (h : Parts) (m : Erased) (s : Spot) (k : Kept limits h) (on : On h s) (
   key_moved = subst (λ (r : Rest). Moved h equals_mark s (trees (m h r.from r.to r.last) (key_at r).said) (key_at r).turn (key_at r).at) told.is key_full
 
   value_after : (t : Taken (Unit {0})) → read ≡ Ok t → (b d : Bool) → eqb (s.place + t.count) s.end ≡ b → marked h comma (s.place + t.count) s.end ≡ d →
-      (f : InternalError) → let r = cond b (step (accepted t.value) key (past s (s.place + t.count)))
+      (f : Fault) → let r = cond b (step (accepted t.value) key (past s (s.place + t.count)))
       (cond d (step (accepted t.value) key (past s (s.place + t.count + 1))) (step (refused f) value s)) in
       Moved h comma s (trees (Ok t) r.said) r.turn r.at
   value_after t is true d ended mark f =

@@ -1,5 +1,4 @@
-pub mod Nested
-pub mod Ledger
-pub mod Views
-pub mod Items
+mod Takes
+mod Nested
+mod Ledger
 mod Talks

@@ -4,8 +4,8 @@ use Rattle.layout.specs.Rules.{Parts, limits, Kept}
 use Rattle.sheet.specs.declared.spot.Spot.{Spot}
 use Rattle.sheet.specs.Spots.{Run, rest, past}
 use Rattle.token_de.specs.declared.seed.Taken.{Taken}
-use Rattle.refusal.specs.declared.fault.InternalError.{InternalError}
-use Rattle.refusal.specs.declared.fault.InternalError.TheVariants.{NoEquals, NoSeparator}
+use Rattle.token_de.specs.declared.fault.Fault.{Fault}
+use Rattle.token_de.specs.declared.fault.Fault.TheVariants.{NoEquals, NoSeparator}
 use Rattle.token_de.specs.Meaning.{Answer, Meaning, Lawful}
 use Rattle.access.specs.declared.drive.KeyMove.{KeyMove}
 use Rattle.access.specs.declared.drive.KeyMove.TheVariants as at_key
@@ -20,7 +20,7 @@ forget_ok : {V : Type 0} (r : Answer (Taken V)) (t : Taken (Unit {0})) → forge
 forget_ok (Ok u) t is = (u, refl, let same : ◌≡◌ {A = Taken (Unit {0})} (record { count = u.count; value = tt }) t = cc in ap (λ (x : Taken (Unit {0})). x.count) same)
 forget_ok (Err f) t is = absurd (let z : ◌≡◌ {A = ℕ} 0 1 = cc in omega arith)
 
-forget_err : {V : Type 0} (r : Answer (Taken V)) (f : InternalError) → forget r ≡ Err f → r ≡ Err f
+forget_err : {V : Type 0} (r : Answer (Taken V)) (f : Fault) → forget r ≡ Err f → r ≡ Err f
 forget_err (Ok u) f is = absurd (let z : ◌≡◌ {A = ℕ} 0 1 = cc in omega arith)
 forget_err (Err g) f is = cc
 

@@ -1,6 +1,5 @@
 pub mod Plain
 pub mod Elements
-pub mod Items
 pub mod Nested
 pub mod Calls
 pub mod Talks

@@ -9,9 +9,9 @@ use Rattle.sheet.specs.declared.token.Token.TheVariants as tokens
 use Rattle.sheet.specs.Tokens.{token}
 use Rattle.sheet.specs.Spots.{rest, past}
 use Rattle.token_de.specs.declared.seed.Taken.{Taken}
-use Rattle.refusal.specs.declared.fault.InternalError.{InternalError}
-use Rattle.refusal.specs.declared.fault.InternalError.TheVariants.{NoEquals, NoSeparator, Leftover}
-use Rattle.refusal.specs.Faults.{name_by}
+use Rattle.token_de.specs.declared.fault.Fault.{Fault}
+use Rattle.token_de.specs.declared.fault.Fault.TheVariants.{Wrong, Ended, Empty, NoEquals, NoSeparator, Leftover, Unreadable, Data}
+use Rattle.token_de.specs.declared.fault.DataFault.{DataFault}
 use Rattle.token_de.specs.Meaning.{Answer, Meaning}
 use Rattle.access.specs.declared.map_access.KeyTurn.{KeyTurn}
 use Rattle.access.specs.declared.map_access.ValueTurn.{ValueTurn}
@@ -45,7 +45,7 @@ pub data Turn : Type 0 where
 pub data Said (V : Type 0) : Type 0 where
   none : Said V
   accepted : V → Said V
-  refused : InternalError → Said V
+  refused : Fault → Said V
 
 -- a call's answer, and the list after it
 pub record Step (V : Type 0) : Type 0 where
@@ -67,8 +67,18 @@ abbrev pub key_read : {V : Type 0} → Parts → Meaning V → Spot → Step V
 key_read h m s = let r = rest h s in cond (r.from == r.to) (step none key s) (key_taken h s r.from r.to (m h r.from r.to r.last))
 
 -- a data fault at record 0 is named by the first token of the value, if there is one
-abbrev pub named : ℕ → ℕ → InternalError → InternalError
-named p e f = cond (nat_lt p e) (name_by p f) f
+abbrev pub name_data : ℕ → ℕ → DataFault → ℕ → Fault
+name_data p e d i = cond (i == 0 && nat_lt p e) (Data d p) (Data d i)
+
+abbrev pub named : ℕ → ℕ → Fault → Fault
+named p e (Data d i) = name_data p e d i
+named p e (Wrong w i) = Wrong w i
+named p e (Ended w i) = Ended w i
+named p e (Empty i) = Empty i
+named p e (NoEquals i) = NoEquals i
+named p e (NoSeparator i) = NoSeparator i
+named p e (Leftover i) = Leftover i
+named p e (Unreadable i) = Unreadable i
 
 -- A VALUE READ: the seed's trees, and then the end or one comma
 abbrev pub value_taken : {V : Type 0} → Parts → Spot → ℕ → ℕ → Answer (Taken V) → Step V
@@ -87,15 +97,15 @@ abbrev pub finished : Parts → Spot → Step (Unit {0})
 finished h s = let r = rest h s in cond (nat_lt r.from r.to) (step (refused (Leftover r.from)) key s) (step (accepted tt) over s)
 
 -- the code's answers as those of the plain list; a refusal shows the turn that it hands back
-abbrev pub key_shown : {V : Type 0} → Result (NextKey V) (KeyTurn × InternalError) → Step V
+abbrev pub key_shown : {V : Type 0} → Result (NextKey V) (KeyTurn × Fault) → Step V
 key_shown (Ok (next.None t)) = step none key t.at
 key_shown (Ok (next.Key v t)) = step (accepted v) value t.at
 key_shown (Err r) = step (refused r.1) key r.0.at
 
-abbrev pub value_shown : {V : Type 0} → Result (V × KeyTurn) (ValueTurn × InternalError) → Step V
+abbrev pub value_shown : {V : Type 0} → Result (V × KeyTurn) (ValueTurn × Fault) → Step V
 value_shown (Ok r) = step (accepted r.0) key r.1.at
 value_shown (Err r) = step (refused r.1) value r.0.at
 
-abbrev pub finish_shown : Spot → Result (Unit {0}) (KeyTurn × InternalError) → Step (Unit {0})
+abbrev pub finish_shown : Spot → Result (Unit {0}) (KeyTurn × Fault) → Step (Unit {0})
 finish_shown s (Ok u) = step (accepted tt) over s
 finish_shown s (Err r) = step (refused r.1) key r.0.at

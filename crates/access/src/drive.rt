@@ -1,6 +1,6 @@
 use crate::map_access::{KeyTurn, ValueTurn};
-use refusal::fault::InternalError;
 use sheet::spot::Spot;
+use token_de::fault::Fault;
 
 pub mod calls;
 
@@ -24,7 +24,7 @@ pub enum ValueMove<V> {
 pub enum Heard<V> {
     None,
     Accepted(V),
-    Refused(InternalError),
+    Refused(Fault),
 }
 
 // A member list between two calls; at the end only where it stood is left.

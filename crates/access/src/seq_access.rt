@@ -1,13 +1,13 @@
 ghost use Rattle.std.specs.Prelude.{◌≡◌};
 ghost use Rattle.sheet.specs.Sheets.{held};
 ghost use Rattle.sheet.specs.Spots.{at_body};
-ghost use Rattle.access.specs.Elements.{element_read, element_shown, elements_ended, ended_shown};
+ghost use Rattle.access.specs.Elements.{element_read, element_shown};
 
-use crate::map_access::calls::is_mark;
-use refusal::fault::InternalError;
+use crate::map_access::calls::{is_mark, take};
 use sheet::sheet::Sheet;
 use sheet::spot::{Body, Spot};
 use sheet::token::Punct;
+use token_de::fault::Fault;
 use token_de::seed::{Seed, Taken};
 
 // The elements of a list body that are still to be read.
@@ -38,14 +38,14 @@ impl Elements {
         self,
         sheet: &Sheet,
         seed: &S,
-    ) -> Result<NextElement<S::Value>, (Elements, InternalError)>
+    ) -> Result<NextElement<S::Value>, (Elements, Fault)>
         ensures { element_shown result ≡ element_read (held sheet.now) (S.Seed.meaning seed.now) self.at }
     {
         let rest = sheet.rest(self.at);
         if rest.from == rest.to {
             return Ok(NextElement::None(self));
         }
-        match seed.take(sheet, rest) {
+        match take(sheet, rest, seed) {
             Ok(Taken { count, value }) => {
                 let next = rest.from + count;
                 if next == rest.to {
@@ -56,20 +56,9 @@ impl Elements {
                     let behind_comma = self.at.past(next + 1);
                     return Ok(NextElement::Element(value, Elements { at: behind_comma }));
                 }
-                Err((self, InternalError::NoSeparator(next)))
+                Err((self, Fault::NoSeparator(next)))
             }
             Err(fault) => Err((self, fault)),
         }
-    }
-
-    // Ends the list, where nothing is left.
-    pub fn finish(self, sheet: &Sheet) -> Result<(), (Elements, InternalError)>
-        ensures { ended_shown self.at result ≡ elements_ended (held sheet.now) self.at }
-    {
-        let rest = sheet.rest(self.at);
-        if rest.from < rest.to {
-            return Err((self, InternalError::Leftover(rest.from)));
-        }
-        Ok(())
     }
 }

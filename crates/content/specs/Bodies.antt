@@ -5,7 +5,7 @@ use Rattle.sheet.specs.declared.token.Token.{Token}
 use Rattle.sheet.specs.declared.token.Token.TheVariants as tokens
 use Rattle.sheet.specs.Tokens.{token}
 use Rattle.token_de.specs.declared.seed.Taken.{Taken}
-use Rattle.refusal.specs.declared.fault.InternalError.TheVariants.{NoEquals, NoSeparator}
+use Rattle.token_de.specs.declared.fault.Fault.TheVariants.{NoEquals, NoSeparator}
 use Rattle.token_de.specs.Meaning.{Answer}
 use Rattle.token_de.specs.Steps.{◌then◌}
 

@@ -13,8 +13,8 @@ use Rattle.sheet.specs.declared.token.Token.{Token}
 use Rattle.sheet.specs.declared.token.Token.TheVariants as tokens
 use Rattle.sheet.specs.Tokens.{token, bytes_of}
 use Rattle.token_de.specs.declared.seed.Taken.{Taken}
-use Rattle.refusal.specs.declared.fault.InternalError.TheVariants.{Wrong, Ended, Empty, Leftover, Unreadable}
-use Rattle.refusal.specs.declared.fault.Wanted.TheVariants as wanted
+use Rattle.token_de.specs.declared.fault.Fault.TheVariants.{Wrong, Ended, Empty, Leftover, Unreadable}
+use Rattle.token_de.specs.declared.fault.Wanted.TheVariants as wanted
 use Rattle.token_de.specs.Meaning.{Answer, Meaning}
 use Rattle.token_de.specs.Steps.{◌then◌}
 use Rattle.scalar.specs.Bools.{truth}

@@ -9,7 +9,7 @@ use Rattle.std.proofs.lemmas.Bool.{cases_lt, lt-ltb, le-ltb, ltb-true, ltb-false
 use Rattle.layout.specs.Rules.{Parts}
 use Rattle.sheet.specs.Tokens.{token}
 use Rattle.token_de.specs.declared.seed.Taken.{Taken}
-use Rattle.refusal.specs.declared.fault.InternalError.TheVariants.{NoSeparator}
+use Rattle.token_de.specs.declared.fault.Fault.TheVariants.{NoSeparator}
 use Rattle.token_de.specs.Steps.{◌then◌}
 use Rattle.token_de.proofs.Trees.{then_ok}
 use Rattle.content.specs.Bodies.{Reads, is, passed, after, equals, items, body, entry}

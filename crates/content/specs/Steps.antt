@@ -14,9 +14,9 @@ use Rattle.sheet.specs.declared.token.Part.{Part}
 use Rattle.sheet.specs.Tokens.{token, bytes_of}
 use Rattle.sheet.specs.Spots.{Passed}
 use Rattle.token_de.specs.declared.seed.Taken.{Taken}
-use Rattle.refusal.specs.declared.fault.InternalError.{InternalError}
-use Rattle.refusal.specs.declared.fault.InternalError.TheVariants.{Wrong}
-use Rattle.refusal.specs.declared.fault.Wanted.TheVariants as wanted
+use Rattle.token_de.specs.declared.fault.Fault.{Fault}
+use Rattle.token_de.specs.declared.fault.Fault.TheVariants.{Wrong}
+use Rattle.token_de.specs.declared.fault.Wanted.TheVariants as wanted
 use Rattle.token_de.specs.Meaning.{Answer, Proper, Lawful}
 use Rattle.token_de.specs.Steps.{◌then◌}
 use Rattle.token_de.proofs.Trees.{run_inside, passed_inside}
@@ -33,7 +33,7 @@ abbrev pub Oks : {X : Type 0} → (X → Type 0) → Answer X → Type 0
 Oks P (Ok x) = P x
 Oks P (Err f) = Unit {0}
 
-abbrev pub Errs : {X : Type 0} → (InternalError → Type 0) → Answer X → Type 0
+abbrev pub Errs : {X : Type 0} → (Fault → Type 0) → Answer X → Type 0
 Errs Q (Ok x) = Unit {0}
 Errs Q (Err f) = Q f
 
@@ -45,7 +45,7 @@ pub then_oks : {X Y : Type 0} (P : Y → Type 0) (r : Answer X) (f : X → Answe
 then_oks P (Ok x) f each = each x refl
 then_oks P (Err e) f each = tt
 
-then_errs : {X Y : Type 0} (Q : InternalError → Type 0) (r : Answer X) (f : X → Answer Y) → Errs Q r → ((x : X) → r ≡ Ok x → Errs Q (f x)) → Errs Q (r then f)
+then_errs : {X Y : Type 0} (Q : Fault → Type 0) (r : Answer X) (f : X → Answer Y) → Errs Q r → ((x : X) → r ≡ Ok x → Errs Q (f x)) → Errs Q (r then f)
 then_errs Q (Ok x) f here each = each x refl
 then_errs Q (Err e) f here each = here
 

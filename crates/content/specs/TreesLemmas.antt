@@ -116,7 +116,7 @@ module _ (n : ℕ) (runs : (h : Parts) → Kept limits h → (p e : ℕ) → Lev
   words_exact : Exact (content (suc n)) AnyWord
   unfolding Content word_from
   words_exact = record {
-    some = λ h p q v w. omega (arith, word_some w);
+    some = λ h p q v w. word_some w;
     sound = λ h p e last t k run found. word_from (suc n) h p (p + t.count) t.value ((content_fits (suc n) h p e (runs h k p e)).sound p last t (omega arith) run.order found);
     complete = λ h p q e last v k run le w. (content_fits (suc n) h p e (runs h k p e)).complete p q last v (omega arith) (word_some w) le (levels_of h p q v k w).0;
     one = λ h p q v k w x.

@@ -6,8 +6,8 @@ use Rattle.std.proofs.lemmas.Bool.Decides.{nat_tests}
 use Rattle.layout.specs.Rules.{Parts}
 use Rattle.sheet.specs.Tokens.{token}
 use Rattle.token_de.specs.declared.seed.Taken.{Taken}
-use Rattle.refusal.specs.declared.fault.InternalError.{InternalError}
-use Rattle.refusal.specs.declared.fault.InternalError.TheVariants.{NoEquals}
+use Rattle.token_de.specs.declared.fault.Fault.{Fault}
+use Rattle.token_de.specs.declared.fault.Fault.TheVariants.{NoEquals}
 use Rattle.token_de.specs.Steps.{◌then◌}
 use Rattle.content.specs.Bodies.{Reads, is, passed, after, equals, items, body, entry}
 
@@ -44,14 +44,14 @@ module _ {V : Type 0} (h : Parts) (m : Reads V) (first : ℕ) where
     here : items h m t.left first p e n ≡ m p e last then (λ u. after h (p + u.count) e then (λ q. items h m (t.left - 1) first q e (n + 1)))
     here = rw is_last (turn t.left p e n lt t.enough)
 
-    pub refused : (f : InternalError) → m p e last ≡ Err f → Err f ≡ body h m first e
+    pub refused : (f : Fault) → m p e last ≡ Err f → Err f ≡ body h m first e
     refused f no_word = (rw no_word at (sym here)) ∙ t.same
 
     module _ (u : Taken V) (word : m p e last ≡ Ok u) where
       then_after : after h (p + u.count) e then (λ q. items h m (t.left - 1) first q e (n + 1)) ≡ body h m first e
       then_after = (rw word at (sym here)) ∙ t.same
 
-      pub stopped : (f : InternalError) → after h (p + u.count) e ≡ Err f → Err f ≡ body h m first e
+      pub stopped : (f : Fault) → after h (p + u.count) e ≡ Err f → Err f ≡ body h m first e
       stopped f no_comma = rw no_comma at then_after
 
       pub next : 0 < u.count → p + u.count ≤ e → (q : ℕ) → after h (p + u.count) e ≡ Ok q → Turn h m first q e (n + 1)
@@ -76,15 +76,15 @@ equals_at h p q e r found = go (nat_lt q e) (is 61 (token h q)) refl refl found
 
 -- an entry, from the reads of its key, its `=` and its value
 module _ {K V : Type 0} (h : Parts) (k : Reads K) (v : Reads V) (p e : ℕ) (last : Option ℕ) where
-  pub no_key : (f : InternalError) → k p e last ≡ Err f → entry h k v p e last ≡ Err f
+  pub no_key : (f : Fault) → k p e last ≡ Err f → entry h k v p e last ≡ Err f
   no_key f none = rw none
 
   module _ (t : Taken K) (key : k p e last ≡ Ok t) where
-    pub no_equals : (f : InternalError) → equals h p (p + t.count) e ≡ Err f → entry h k v p e last ≡ Err f
+    pub no_equals : (f : Fault) → equals h p (p + t.count) e ≡ Err f → entry h k v p e last ≡ Err f
     no_equals f none = rw (key, none)
 
     module _ (q : ℕ) (at : equals h p (p + t.count) e ≡ Ok q) where
-      pub no_value : (f : InternalError) → v (q + 1) e (Some q) ≡ Err f → entry h k v p e last ≡ Err f
+      pub no_value : (f : Fault) → v (q + 1) e (Some q) ≡ Err f → entry h k v p e last ≡ Err f
       no_value f none = rw (key, at, none)
 
       pub has_entry : (u : Taken V) → v (q + 1) e (Some q) ≡ Ok u → entry h k v p e last ≡ Ok (record { count = t.count + 1 + u.count; value = (t.value, u.value) })

@@ -5,9 +5,9 @@ ghost use Rattle.content.specs.TreesLemmas.{any_exact};
 
 use crate::content::content;
 use crate::datum::Datum;
-use refusal::fault::InternalError;
 use sheet::sheet::Sheet;
 use sheet::spot::Rest;
+use token_de::fault::Fault;
 use token_de::seed::{Seed, Taken, Words};
 
 // Record 0 stands alone on its level, and a sheet has at most 32 levels below it.
@@ -24,7 +24,7 @@ impl Seed for AnyContent {
 
     ghost lawful = { λ _. content_lawful 33 };
 
-    fn read(&self, sheet: &Sheet, rest: Rest) -> Result<Taken<Datum>, InternalError> {
+    fn read(&self, sheet: &Sheet, rest: Rest) -> Result<Taken<Datum>, Fault> {
         content(sheet, rest, LEVELS)
     }
 }

@@ -7,13 +7,13 @@ ghost use Rattle.content.specs.Contents.{named, literal_value, negated, from_pun
 
 use crate::body::token_at;
 use crate::datum::Datum;
-use refusal::fault::{InternalError, Wanted};
 use scalar::bool::spelled;
 use scalar::text::TextPart;
 use sheet::sheet::Sheet;
 use sheet::text::Pool;
 use sheet::token::{Literal, Part, Punct, Token};
 use sheet::tree::Tree;
+use token_de::fault::{Fault, Wanted};
 use token_de::seed::Taken;
 
 const SIGN: u64 = 0x8000_0000_0000_0000;
@@ -44,17 +44,17 @@ pub(crate) fn named(truth: Option<bool>, part: Part) -> Datum
 }
 
 // The value of a literal at `at`.
-pub(crate) fn literal_value(literal: Literal, at: usize) -> Result<Datum, InternalError>
+pub(crate) fn literal_value(literal: Literal, at: usize) -> Result<Datum, Fault>
     ensures { result ≡ literal_value literal at }
 {
     match literal {
         Literal::Char(c) => Ok(Datum::Char(c)),
         Literal::Integer(integer) => match integer.magnitude {
             Some(magnitude) => Ok(Datum::Unsigned(magnitude)),
-            None => Err(InternalError::Wrong(Wanted::ContentInteger, at)),
+            None => Err(Fault::Wrong(Wanted::ContentInteger, at)),
         },
         Literal::Float(bits) => Ok(Datum::Float(bits)),
-        _ => Err(InternalError::Unreadable(at)),
+        _ => Err(Fault::Unreadable(at)),
     }
 }
 
@@ -70,16 +70,16 @@ fn negative(magnitude: u64) -> i64
 }
 
 // The value of a token behind a `-` at `at`.
-fn negated(token: Token, at: usize) -> Result<Datum, InternalError>
+fn negated(token: Token, at: usize) -> Result<Datum, Fault>
     ensures { result ≡ negated token at }
 {
     match token {
         Token::Literal(Literal::Float(bits)) => Ok(Datum::Float(bits | SIGN)),
         Token::Literal(Literal::Integer(integer)) => match integer.magnitude {
             Some(magnitude) if magnitude <= 1 << 63 => Ok(Datum::Signed(negative(magnitude))),
-            _ => Err(InternalError::Wrong(Wanted::ContentInteger, at)),
+            _ => Err(Fault::Wrong(Wanted::ContentInteger, at)),
         },
-        _ => Err(InternalError::Wrong(Wanted::Content, at)),
+        _ => Err(Fault::Wrong(Wanted::Content, at)),
     }
 }
 
@@ -89,7 +89,7 @@ pub(crate) fn from_punct(
     at: usize,
     to: usize,
     punct: Punct,
-) -> Result<Taken<Datum>, InternalError>
+) -> Result<Taken<Datum>, Fault>
     requires { (at < to) × (to ≤ length (held sheet.now).records) }
     ensures { result ≡ from_punct (held sheet.now) at to punct }
 {
@@ -97,5 +97,5 @@ pub(crate) fn from_punct(
         let value = negated(token_at(sheet, at + 1), at)?;
         return Ok(Taken { count: 2, value });
     }
-    Err(InternalError::Wrong(Wanted::Content, at))
+    Err(Fault::Wrong(Wanted::Content, at))
 }

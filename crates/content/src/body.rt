@@ -4,9 +4,9 @@ ghost use Rattle.sheet.specs.Sheets.{held};
 ghost use Rattle.sheet.specs.Tokens.{token};
 ghost use Rattle.content.specs.Bodies.{is, passed, after, equals};
 
-use refusal::fault::InternalError;
 use sheet::sheet::Sheet;
 use sheet::token::{Punct, Token};
+use token_de::fault::Fault;
 
 pub(crate) fn token_at(sheet: &Sheet, at: usize) -> Token
     requires { at < length (held sheet.now).records }
@@ -32,7 +32,7 @@ pub(crate) fn last_passed(first: usize, place: usize) -> Option<usize>
 }
 
 // The place past a comma, or the end.
-pub(crate) fn past_comma(sheet: &Sheet, place: usize, to: usize) -> Result<usize, InternalError>
+pub(crate) fn past_comma(sheet: &Sheet, place: usize, to: usize) -> Result<usize, Fault>
     requires { to ≤ length (held sheet.now).records }
     ensures { result ≡ after (held sheet.now) place to }
 {
@@ -42,26 +42,21 @@ pub(crate) fn past_comma(sheet: &Sheet, place: usize, to: usize) -> Result<usize
     if is_punct(token_at(sheet, place), Punct::COMMA) {
         Ok(place + 1)
     } else {
-        Err(InternalError::NoSeparator(place))
+        Err(Fault::NoSeparator(place))
     }
 }
 
 // The place of the `=` behind the key at `key`.
-pub(crate) fn at_equals(
-    sheet: &Sheet,
-    key: usize,
-    place: usize,
-    to: usize,
-) -> Result<usize, InternalError>
+pub(crate) fn at_equals(sheet: &Sheet, key: usize, place: usize, to: usize) -> Result<usize, Fault>
     requires { to ≤ length (held sheet.now).records }
     ensures { result ≡ equals (held sheet.now) key place to }
 {
     if place >= to {
-        return Err(InternalError::NoEquals(key));
+        return Err(Fault::NoEquals(key));
     }
     if is_punct(token_at(sheet, place), Punct::EQUALS) {
         Ok(place)
     } else {
-        Err(InternalError::NoEquals(place))
+        Err(Fault::NoEquals(place))
     }
 }

@@ -9,12 +9,12 @@ ghost use Rattle.content.specs.Contents.{content as meant, from_group};
 use crate::atom::{from_punct, literal_value, named, truth_at};
 use crate::body::{at_equals, last_passed, past_comma, token_at};
 use crate::datum::{Counted, Datum};
-use refusal::fault::{InternalError, Wanted};
 use scalar::text::TextPart;
 use sheet::sheet::Sheet;
 use sheet::spot::Rest;
 use sheet::text::Pool;
 use sheet::token::{Delimiter, Group, Token};
+use token_de::fault::{Fault, Wanted};
 use token_de::seed::Taken;
 
 fn one(value: Datum) -> Taken<Datum>
@@ -25,18 +25,14 @@ fn one(value: Datum) -> Taken<Datum>
 
 // One content word, of at most `depth` levels.
 #[cycle(content_content_group_content_list_content_members)]
-pub(crate) fn content(
-    sheet: &Sheet,
-    rest: Rest,
-    depth: usize,
-) -> Result<Taken<Datum>, InternalError>
+pub(crate) fn content(sheet: &Sheet, rest: Rest, depth: usize) -> Result<Taken<Datum>, Fault>
     requires run { Run (held sheet.now) rest.from rest.to }
     requires levels { Levels depth (held sheet.now) rest.from rest.to }
     ensures { result ≡ meant depth (held sheet.now) rest.from rest.to rest.last }
 {
     let at = rest.from;
     if at >= rest.to {
-        return Err(InternalError::Ended(Wanted::Content, rest.last.unwrap_or(0)));
+        return Err(Fault::Ended(Wanted::Content, rest.last.unwrap_or(0)));
     }
     match token_at(sheet, at) {
         Token::Ident(part) => Ok(one(named(truth_at(sheet, at), part))),
@@ -61,7 +57,7 @@ fn content_group(
     at: usize,
     group: Group,
     depth: usize,
-) -> Result<Taken<Datum>, InternalError>
+) -> Result<Taken<Datum>, Fault>
     requires run { Run (held sheet.now) group.first (group.first + group.count) }
     requires levels { Levels depth (held sheet.now) group.first (group.first + group.count) }
     ensures { result ≡ from_group (held sheet.now) (meant depth (held sheet.now)) at group.first group.count group.delimiter }
@@ -78,7 +74,7 @@ fn content_group(
             let count = content_members(sheet, first, to, depth)?;
             Ok(one(Datum::Map(Counted { group: at, count })))
         }
-        Delimiter::Invisible if group.count == 0 => Err(InternalError::Empty(at)),
+        Delimiter::Invisible if group.count == 0 => Err(Fault::Empty(at)),
         Delimiter::Invisible => {
             let inside = Rest {
                 from: first,
@@ -89,7 +85,7 @@ fn content_group(
             if word.count == group.count {
                 Ok(one(word.value))
             } else {
-                Err(InternalError::Leftover(first + word.count))
+                Err(Fault::Leftover(first + word.count))
             }
         }
     }
@@ -97,12 +93,7 @@ fn content_group(
 
 // How many words a list body of content has.
 #[cycle(content_content_group_content_list_content_members)]
-fn content_list(
-    sheet: &Sheet,
-    first: usize,
-    to: usize,
-    depth: usize,
-) -> Result<usize, InternalError>
+fn content_list(sheet: &Sheet, first: usize, to: usize, depth: usize) -> Result<usize, Fault>
     requires run { Run (held sheet.now) first to }
     requires levels { Levels depth (held sheet.now) first to }
     ensures { result ≡ body (held sheet.now) (meant depth (held sheet.now)) first to }
@@ -124,12 +115,7 @@ fn content_list(
 
 // How many entries a member body of content and content has.
 #[cycle(content_content_group_content_list_content_members)]
-fn content_members(
-    sheet: &Sheet,
-    first: usize,
-    to: usize,
-    depth: usize,
-) -> Result<usize, InternalError>
+fn content_members(sheet: &Sheet, first: usize, to: usize, depth: usize) -> Result<usize, Fault>
     requires run { Run (held sheet.now) first to }
     requires levels { Levels depth (held sheet.now) first to }
     ensures { result ≡ body (held sheet.now) (entry (held sheet.now) (meant depth (held sheet.now)) (meant depth (held sheet.now))) first to }

@@ -3,9 +3,9 @@ ghost use Rattle.content.specs.Trees.{IgnoredWord};
 ghost use Rattle.content.specs.PassedOver.{ignored_lawful, ignored_exact};
 
 use crate::any::AnyContent;
-use refusal::fault::InternalError;
 use sheet::sheet::Sheet;
 use sheet::spot::Rest;
+use token_de::fault::Fault;
 use token_de::seed::{Seed, Taken, Words};
 
 // Any value, which is passed over.
@@ -19,7 +19,7 @@ impl Seed for IgnoredAny {
 
     ghost lawful = { λ _. ignored_lawful };
 
-    fn read(&self, sheet: &Sheet, rest: Rest) -> Result<Taken<()>, InternalError> {
+    fn read(&self, sheet: &Sheet, rest: Rest) -> Result<Taken<()>, Fault> {
         let word = AnyContent.read(sheet, rest)?;
         Ok(Taken {
             count: word.count,

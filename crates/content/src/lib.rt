@@ -1,4 +1,6 @@
 // The seeds of content, which takes any value whose tokens alone say what it is.
+#![tactic(auto)]
+
 pub mod any;
 pub(crate) mod atom;
 pub(crate) mod body;

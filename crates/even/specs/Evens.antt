@@ -1,6 +1,6 @@
 -- Even integers. Assumes nothing.
 use Rattle.std.specs.Prelude.{ℕ, ◌%◌, eqb}
-use Rattle.refusal.specs.declared.fault.Wanted.TheVariants as wanted
+use Rattle.token_de.specs.declared.fault.Wanted.TheVariants as wanted
 use Rattle.token_de.specs.Meaning.{Meaning}
 use Rattle.token_de.specs.Steps.{tested}
 use Rattle.scalar.specs.Integers.{magnitude_of}

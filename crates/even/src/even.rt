@@ -1,14 +1,14 @@
 ghost use Rattle.even.specs.Evens.{even_read};
 ghost use Rattle.std.specs.Prelude.{◌%◌, eqb};
 ghost use Rattle.std.proofs.Common.{arith};
-ghost use Rattle.refusal.specs.declared.fault.Wanted.TheVariants as wanted;
+ghost use Rattle.token_de.specs.declared.fault.Wanted.TheVariants as wanted;
 ghost use Rattle.token_de.proofs.Trees.{tested_lawful};
 ghost use Rattle.scalar.specs.Integers.{magnitude_of};
 
-use refusal::fault::{DataFault, InternalError, Wanted};
 use scalar::integer::magnitude_of;
 use sheet::sheet::Sheet;
 use sheet::spot::Rest;
+use token_de::fault::{DataFault, Fault, Wanted};
 use token_de::seed::{Seed, Taken, next_token};
 
 // An even integer: one integer literal that fits 64 bits. An odd one is a data fault.
@@ -25,13 +25,13 @@ impl Seed for Even {
 
     ghost lawful = { λ _. tested_lawful wanted.Unsigned (λ h t. magnitude_of t) (λ v. eqb (v % 2) 0) 100 (omega arith) (omega arith) };
 
-    fn read(&self, sheet: &Sheet, rest: Rest) -> Result<Taken<u64>, InternalError> {
+    fn read(&self, sheet: &Sheet, rest: Rest) -> Result<Taken<u64>, Fault> {
         let token = next_token(sheet, rest, Wanted::Unsigned)?;
-        let value = magnitude_of(token).ok_or(InternalError::Wrong(Wanted::Unsigned, rest.from))?;
+        let value = magnitude_of(token).ok_or(Fault::Wrong(Wanted::Unsigned, rest.from))?;
         if value % 2 == 0 {
             Ok(Taken { count: 1, value })
         } else {
-            Err(InternalError::Data(DataFault::Custom(ODD), 0))
+            Err(Fault::Data(DataFault::Custom(ODD), 0))
         }
     }
 }

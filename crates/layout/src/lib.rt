@@ -1,4 +1,6 @@
 // The records of a sheet file and the rules that they keep.
+#![tactic(auto)]
+
 pub mod fault;
 pub mod limits;
 pub mod record;

@@ -6,7 +6,7 @@ use Rattle.sheet.specs.declared.token.Part.{Part}
 use Rattle.sheet.specs.declared.token.Token.{Token}
 use Rattle.sheet.specs.declared.token.Token.TheVariants as tokens
 use Rattle.sheet.specs.Tokens.{token, bytes_of}
-use Rattle.refusal.specs.declared.fault.Wanted.TheVariants as wanted
+use Rattle.token_de.specs.declared.fault.Wanted.TheVariants as wanted
 use Rattle.token_de.specs.Meaning.{Meaning, Grammar}
 use Rattle.token_de.specs.Steps.{single, One}
 

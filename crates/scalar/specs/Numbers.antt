@@ -7,8 +7,8 @@ use Rattle.sheet.specs.declared.token.Token.TheVariants as tokens
 use Rattle.sheet.specs.Tokens.{token}
 use Rattle.sheet.specs.Trees.{if_there}
 use Rattle.token_de.specs.declared.seed.Taken.{Taken}
-use Rattle.refusal.specs.declared.fault.Wanted.{Wanted}
-use Rattle.refusal.specs.declared.fault.InternalError.TheVariants.{Wrong}
+use Rattle.token_de.specs.declared.fault.Wanted.{Wanted}
+use Rattle.token_de.specs.declared.fault.Fault.TheVariants.{Wrong}
 use Rattle.token_de.specs.Meaning.{Answer, Meaning, Grammar}
 use Rattle.token_de.specs.Steps.{◌then◌, next}
 

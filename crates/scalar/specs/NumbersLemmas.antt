@@ -12,9 +12,9 @@ use Rattle.sheet.specs.declared.token.Token.TheVariants as tokens
 use Rattle.sheet.specs.Tokens.{token}
 use Rattle.sheet.specs.Trees.{if_there}
 use Rattle.token_de.specs.declared.seed.Taken.{Taken}
-use Rattle.refusal.specs.declared.fault.InternalError.{InternalError}
-use Rattle.refusal.specs.declared.fault.InternalError.TheVariants.{Wrong, Ended}
-use Rattle.refusal.specs.declared.fault.Wanted.{Wanted}
+use Rattle.token_de.specs.declared.fault.Fault.{Fault}
+use Rattle.token_de.specs.declared.fault.Fault.TheVariants.{Wrong, Ended}
+use Rattle.token_de.specs.declared.fault.Wanted.{Wanted}
 use Rattle.token_de.specs.Meaning.{Answer, Proper, Lawful, Exact}
 use Rattle.token_de.specs.Steps.{◌then◌, next}
 use Rattle.token_de.proofs.Trees.{token_set, next_is, next_none, run_inside, passed_inside}
@@ -43,7 +43,7 @@ module _ {V : Type 0} (wanted : Wanted) where
   or_ok (Some v) p n t is = let same : ◌≡◌ {A = Taken V} (record { count = n; value = v }) t = cc in (sym (ap (λ (x : Taken V). x.count) same), ap (λ (x : Taken V). Some x.value) same)
   or_ok None p n t is = absurd (let z : ◌≡◌ {A = ℕ} 0 1 = cc in omega arith)
 
-  or_err : (o : Option V) (p n : ℕ) (x : InternalError) → or_wrong o p n ≡ Err x → Wrong wanted p ≡ x
+  or_err : (o : Option V) (p n : ℕ) (x : Fault) → or_wrong o p n ≡ Err x → Wrong wanted p ≡ x
   unfolding or_wrong
   or_err (Some v) p n x is = absurd (let z : ◌≡◌ {A = ℕ} 0 1 = cc in omega arith)
   or_err None p n x is = cc
@@ -97,7 +97,7 @@ module _ {V : Type 0} (wanted : Wanted) (worth : Bool → Token → Option V) wh
   negated_is h p e last t inside a = read_left h p e last true (omega (arith, a.2)) (omega (arith, a.2)) a.1
       ∙ ap (λ (o : Option V). or_wrong wanted o p 2) (behind_left wanted worth h (p + 1) e a.2 inside ∙ a.3) ∙ ap (λ (n : ℕ). Ok (record { count = n; value = t.value })) (sym a.0)
 
-  number_err : (h : Parts) (p e : ℕ) (last : Option ℕ) (x : InternalError) → e ≤ length h.records → number_read wanted worth h p e last ≡ Err x → (Ended wanted (unwrap_or last 0) ≡ x) ⊎ ((p < length h.records) × (Wrong wanted p ≡ x))
+  number_err : (h : Parts) (p e : ℕ) (last : Option ℕ) (x : Fault) → e ≤ length h.records → number_read wanted worth h p e last ≡ Err x → (Ended wanted (unwrap_or last 0) ≡ x) ⊎ ((p < length h.records) × (Wrong wanted p ≡ x))
   number_err h p e last x inside is = ⊎_elim
       (λ (lt : p < e). inr (omega arith, go (is_minus (token h p)) (sym (read_left h p e last (is_minus (token h p)) lt (omega arith) refl) ∙ is)))
       (λ (le : e ≤ p). inl (let n = read_none h p e last le in cc))

@@ -1,7 +1,7 @@
 -- Signed integers between two ends. Assumes nothing.
 use Rattle.std.specs.Prelude.{◌≡◌, ℕ, Bool, true, false, cond, ◌&&◌, ℤ, pos, neg_ℤ, ◌≤ℤ◌, Some, None, Option, int_le}
 use Rattle.sheet.specs.declared.token.Token.{Token}
-use Rattle.refusal.specs.declared.fault.Wanted.TheVariants as wanted
+use Rattle.token_de.specs.declared.fault.Wanted.TheVariants as wanted
 use Rattle.token_de.specs.Meaning.{Meaning, Grammar}
 use Rattle.scalar.specs.declared.signed.Signed.{Signed}
 use Rattle.scalar.specs.Integers.{magnitude_of, integer}

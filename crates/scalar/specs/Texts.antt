@@ -4,14 +4,14 @@ use Rattle.layout.specs.Rules.{Parts, limits, Kept}
 use Rattle.sheet.specs.declared.spot.Spot.{Spot}
 use Rattle.sheet.specs.Spots.{rest}
 use Rattle.token_de.specs.Cursors.{text_read}
-use Rattle.refusal.specs.declared.fault.InternalError.{InternalError}
+use Rattle.token_de.specs.declared.fault.Fault.{Fault}
 use Rattle.sheet.specs.declared.text.Pool.{Pool}
 use Rattle.sheet.specs.declared.text.Pool.TheVariants.{Names, Strings}
 use Rattle.sheet.specs.declared.token.Part.{Part}
 use Rattle.sheet.specs.declared.token.Token.{Token}
 use Rattle.sheet.specs.declared.token.Token.TheVariants as tokens
 use Rattle.sheet.specs.Tokens.{token}
-use Rattle.refusal.specs.declared.fault.Wanted.TheVariants as wanted
+use Rattle.token_de.specs.declared.fault.Wanted.TheVariants as wanted
 use Rattle.token_de.specs.Meaning.{Answer, Meaning, Grammar}
 use Rattle.token_de.specs.Steps.{single, One}
 use Rattle.scalar.specs.declared.text.TextPart.{TextPart}
@@ -59,7 +59,7 @@ abbrev pub StringWord : Grammar TextPart
 StringWord = One IsText
 
 -- THE TEXT READ of a cursor is refused exactly as the string seed is
-abbrev pub refusal : {X : Type 0} → Answer X → Option InternalError
+abbrev pub refusal : {X : Type 0} → Answer X → Option Fault
 refusal (Ok x) = None
 refusal (Err f) = Some f
 

@@ -7,7 +7,7 @@ use Rattle.sheet.specs.declared.token.Group.{Group}
 use Rattle.sheet.specs.declared.token.Token.{Token}
 use Rattle.sheet.specs.declared.token.Token.TheVariants as tokens
 use Rattle.sheet.specs.Tokens.{token}
-use Rattle.refusal.specs.declared.fault.Wanted.TheVariants as wanted
+use Rattle.token_de.specs.declared.fault.Wanted.TheVariants as wanted
 use Rattle.token_de.specs.Meaning.{Meaning, Grammar}
 use Rattle.token_de.specs.Steps.{single, One}
 

@@ -2,7 +2,7 @@ ghost use Rattle.std.specs.Prelude.{◌≡◌};
 ghost use Rattle.std.proofs.Common.{ap, ◌∙◌};
 ghost use Rattle.std.specs.Str.{bytes_eq};
 ghost use Rattle.scalar.specs.Bools.{truth, bool_read, BoolWord, bool_of, spelling, IsBool};
-ghost use Rattle.refusal.specs.declared.fault.Wanted.TheVariants as wanted;
+ghost use Rattle.token_de.specs.declared.fault.Wanted.TheVariants as wanted;
 ghost use Rattle.token_de.proofs.Trees.{single_lawful, single_exact};
 ghost use mathlib.Core.List.{is_set};
 ghost use Rattle.std.proofs.Math.Nat.{ℕ_set};
@@ -14,10 +14,10 @@ ghost use Rattle.scalar.specs.Spellings.{spelt};
 ghost use Rattle.scalar.specs.Tokens.{token_one};
 ghost use Rattle.scalar.specs.BoolWordsLemmas.{read_so};
 
-use refusal::fault::{InternalError, Wanted};
 use sheet::sheet::Sheet;
 use sheet::spot::Rest;
 use sheet::tree::Tree;
+use token_de::fault::{Fault, Wanted};
 use token_de::seed::{Seed, Taken, Words, next_token};
 
 // A truth value: the identifier `true` or `false`.
@@ -51,9 +51,9 @@ impl Seed for Bool {
 
     ghost lawful = { λ _. single_lawful wanted.Bool bool_of };
 
-    fn read(&self, sheet: &Sheet, rest: Rest) -> Result<Taken<bool>, InternalError> {
+    fn read(&self, sheet: &Sheet, rest: Rest) -> Result<Taken<bool>, Fault> {
         next_token(sheet, rest, Wanted::Bool)?;
-        let wrong = InternalError::Wrong(Wanted::Bool, rest.from);
+        let wrong = Fault::Wrong(Wanted::Bool, rest.from);
         let Some(Tree::Ident(name)) = sheet.tree(rest.from) else {
             return Err(wrong);
         };

@@ -1,13 +1,13 @@
 ghost use Rattle.scalar.specs.Chars.{char_read, CharWord, char_of, IsChar};
-ghost use Rattle.refusal.specs.declared.fault.Wanted.TheVariants as wanted;
+ghost use Rattle.token_de.specs.declared.fault.Wanted.TheVariants as wanted;
 ghost use Rattle.token_de.proofs.Trees.{single_lawful, token_set, single_exact};
 ghost use Rattle.std.proofs.Common.{arith};
 ghost use Rattle.std.proofs.lemmas.Bool.Decides.{nat_tests};
 
-use refusal::fault::{InternalError, Wanted};
 use sheet::sheet::Sheet;
 use sheet::spot::Rest;
 use sheet::token::{Literal, Token};
+use token_de::fault::{Fault, Wanted};
 use token_de::seed::{Seed, Taken, Words, next_token};
 
 // A character: one char literal.
@@ -21,10 +21,10 @@ impl Seed for Char {
 
     ghost lawful = { λ _. single_lawful wanted.Char char_of };
 
-    fn read(&self, sheet: &Sheet, rest: Rest) -> Result<Taken<char>, InternalError> {
+    fn read(&self, sheet: &Sheet, rest: Rest) -> Result<Taken<char>, Fault> {
         match next_token(sheet, rest, Wanted::Char)? {
             Token::Literal(Literal::Char(value)) => Ok(Taken { count: 1, value }),
-            _ => Err(InternalError::Wrong(Wanted::Char, rest.from)),
+            _ => Err(Fault::Wrong(Wanted::Char, rest.from)),
         }
     }
 }

@@ -1,7 +1,7 @@
 ghost use Rattle.std.specs.Prelude.{◌≡◌, ℕ, false, ◌⊎◌, Some};
 ghost use Rattle.std.proofs.Common.{sym, ap, ◌∙◌};
 ghost use Rattle.scalar.specs.Floats.{bits_of, float_worth, float_read, FloatWord, signed_bits, numeral, numeral_bits, IsFloat};
-ghost use Rattle.refusal.specs.declared.fault.Wanted.TheVariants as wanted;
+ghost use Rattle.token_de.specs.declared.fault.Wanted.TheVariants as wanted;
 ghost use Rattle.scalar.specs.NumbersLemmas.{number_lawful, number_exact};
 ghost use Rattle.std.proofs.Math.Nat.{ℕ_set};
 ghost use Rattle.sheet.specs.declared.token.Integer.{Integer};
@@ -9,10 +9,10 @@ ghost use Rattle.scalar.specs.Tokens.{token_one};
 ghost use Rattle.scalar.specs.FloatWordsLemmas.{sound, worth_of, same, no_minus};
 
 use crate::number::{Numeral, read_number};
-use refusal::fault::{InternalError, Wanted};
 use sheet::sheet::Sheet;
 use sheet::spot::Rest;
 use sheet::token::{Literal, Token};
+use token_de::fault::{Fault, Wanted};
 use token_de::seed::{Seed, Taken, Words};
 
 // A number as the bits of an f64: an integer or a float literal, whatever its size. A `-` sets the sign, bit 63.
@@ -54,7 +54,7 @@ impl Seed for Float {
 
     ghost lawful = { λ _. number_lawful wanted.Float float_worth };
 
-    fn read(&self, sheet: &Sheet, rest: Rest) -> Result<Taken<u64>, InternalError> {
+    fn read(&self, sheet: &Sheet, rest: Rest) -> Result<Taken<u64>, Fault> {
         read_number(self, Wanted::Float, sheet, rest)
     }
 }

@@ -1,4 +1,6 @@
 // The seeds that read one value of one token, or of a `-` and one token.
+#![tactic(auto)]
+
 pub mod bool;
 pub mod char;
 pub mod float;

@@ -3,10 +3,10 @@ ghost use Rattle.sheet.specs.declared.token.Token.{Token as Tok};
 ghost use Rattle.sheet.specs.Sheets.{held};
 ghost use Rattle.scalar.specs.Numbers.{is_minus, behind, number_read};
 
-use refusal::fault::{InternalError, Wanted};
 use sheet::sheet::Sheet;
 use sheet::spot::Rest;
 use sheet::token::{Punct, Token};
+use token_de::fault::{Fault, Wanted};
 use token_de::seed::{Taken, next_token};
 
 // What a numeral is worth, alone or behind a `-`.
@@ -38,10 +38,10 @@ pub fn read_number<N: Numeral>(
     wanted: Wanted,
     sheet: &Sheet,
     rest: Rest,
-) -> Result<Taken<N::Value>, InternalError>
+) -> Result<Taken<N::Value>, Fault>
     ensures { result ≡ number_read wanted (N.Numeral.worth number.now) (held sheet.now) rest.from rest.to rest.last }
 {
-    let wrong = InternalError::Wrong(wanted, rest.from);
+    let wrong = Fault::Wrong(wanted, rest.from);
     let token = next_token(sheet, rest, wanted)?;
     if is_minus(token) {
         let value = behind_minus(number, sheet, rest.from + 1, rest.to).ok_or(wrong)?;

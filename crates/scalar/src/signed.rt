@@ -1,6 +1,6 @@
 ghost use Rattle.std.specs.Prelude.{◌≡◌, ℕ, ◌≤ℤ◌};
 ghost use Rattle.scalar.specs.Signeds.{signed_value, inside, signed_worth, signed_read, SignedWord, IsSigned};
-ghost use Rattle.refusal.specs.declared.fault.Wanted.TheVariants as wanted;
+ghost use Rattle.token_de.specs.declared.fault.Wanted.TheVariants as wanted;
 ghost use Rattle.scalar.specs.NumbersLemmas.{number_lawful, number_exact};
 ghost use mathlib.Core.HLevel.{×₃_prop};
 ghost use Rattle.std.proofs.Common.{arith};
@@ -11,10 +11,10 @@ ghost use Rattle.scalar.specs.SignedWordsLemmas.{le_one, sound, complete};
 
 use crate::integer::magnitude_of;
 use crate::number::{Numeral, read_number};
-use refusal::fault::{InternalError, Wanted};
 use sheet::sheet::Sheet;
 use sheet::spot::Rest;
 use sheet::token::Token;
+use token_de::fault::{Fault, Wanted};
 use token_de::seed::{Seed, Taken, Words};
 
 // A signed integer between two inclusive ends. Where the ends are in the wrong order it has no words.
@@ -80,7 +80,7 @@ impl Seed for Signed {
 
     ghost lawful = { λ s. number_lawful wanted.Signed (signed_worth s) };
 
-    fn read(&self, sheet: &Sheet, rest: Rest) -> Result<Taken<i64>, InternalError> {
+    fn read(&self, sheet: &Sheet, rest: Rest) -> Result<Taken<i64>, Fault> {
         read_number(self, Wanted::Signed, sheet, rest)
     }
 }

@@ -1,16 +1,16 @@
 ghost use Rattle.scalar.specs.Texts.{identifier_read, IdentifierWord, string_read, StringWord, TextRefusedAsString, identifier_of, IsIdentifier, string_of, IsText};
-ghost use Rattle.refusal.specs.declared.fault.Wanted.TheVariants as wanted;
+ghost use Rattle.token_de.specs.declared.fault.Wanted.TheVariants as wanted;
 ghost use Rattle.token_de.proofs.Trees.{single_lawful, token_set, single_exact};
 ghost use Rattle.std.proofs.Common.{arith};
 ghost use mathlib.Core.HLevel.{×_prop};
 ghost use Rattle.std.proofs.lemmas.Bool.Decides.{nat_tests};
 ghost use Rattle.scalar.specs.IdentifierWordsLemmas.{pool_set};
 
-use refusal::fault::{InternalError, Wanted};
 use sheet::sheet::Sheet;
 use sheet::spot::Rest;
 use sheet::text::Pool;
 use sheet::token::Token;
+use token_de::fault::{Fault, Wanted};
 use token_de::seed::{Seed, Taken, Words, next_token};
 
 // A text by where it lies: its pool, its first byte there, and its length.
@@ -36,7 +36,7 @@ impl Seed for Identifier {
 
     ghost lawful = { λ _. single_lawful wanted.Identifier identifier_of };
 
-    fn read(&self, sheet: &Sheet, rest: Rest) -> Result<Taken<TextPart>, InternalError> {
+    fn read(&self, sheet: &Sheet, rest: Rest) -> Result<Taken<TextPart>, Fault> {
         match next_token(sheet, rest, Wanted::Identifier)? {
             Token::Ident(part) => Ok(Taken {
                 count: 1,
@@ -46,7 +46,7 @@ impl Seed for Identifier {
                     len: part.len,
                 },
             }),
-            _ => Err(InternalError::Wrong(Wanted::Identifier, rest.from)),
+            _ => Err(Fault::Wrong(Wanted::Identifier, rest.from)),
         }
     }
 }
@@ -68,7 +68,7 @@ impl Seed for Str {
 
     ghost lawful = { λ _. single_lawful wanted.String string_of };
 
-    fn read(&self, sheet: &Sheet, rest: Rest) -> Result<Taken<TextPart>, InternalError> {
+    fn read(&self, sheet: &Sheet, rest: Rest) -> Result<Taken<TextPart>, Fault> {
         match next_token(sheet, rest, Wanted::String)? {
             Token::Ident(part) => Ok(Taken {
                 count: 1,
@@ -86,7 +86,7 @@ impl Seed for Str {
                     len: part.len,
                 },
             }),
-            _ => Err(InternalError::Wrong(Wanted::String, rest.from)),
+            _ => Err(Fault::Wrong(Wanted::String, rest.from)),
         }
     }
 }

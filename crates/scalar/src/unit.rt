@@ -1,5 +1,5 @@
 ghost use Rattle.scalar.specs.Units.{unit_read, UnitWord, unit_of, IsUnit};
-ghost use Rattle.refusal.specs.declared.fault.Wanted.TheVariants as wanted;
+ghost use Rattle.token_de.specs.declared.fault.Wanted.TheVariants as wanted;
 ghost use Rattle.token_de.proofs.Trees.{single_lawful, single_exact};
 ghost use Rattle.std.specs.Prelude.{◌≡◌};
 ghost use mathlib.Core.HLevel.{×_prop};
@@ -13,10 +13,10 @@ ghost use Rattle.sheet.specs.Tokens;
 ghost use Rattle.scalar.specs.Tokens.{token_one};
 ghost use Rattle.scalar.specs.EmptyParensWordsLemmas.{delimiter_set, empty};
 
-use refusal::fault::{InternalError, Wanted};
 use sheet::sheet::Sheet;
 use sheet::spot::Rest;
 use sheet::token::{Delimiter, Token};
+use token_de::fault::{Fault, Wanted};
 use token_de::seed::{Seed, Taken, Words, next_token};
 
 // The unit value: an empty pair of parentheses.
@@ -30,14 +30,14 @@ impl Seed for EmptyParens {
 
     ghost lawful = { λ _. single_lawful wanted.Unit unit_of };
 
-    fn read(&self, sheet: &Sheet, rest: Rest) -> Result<Taken<()>, InternalError> {
+    fn read(&self, sheet: &Sheet, rest: Rest) -> Result<Taken<()>, Fault> {
         match next_token(sheet, rest, Wanted::Unit)? {
             Token::Group(group) if group.delimiter == Delimiter::Parenthesis && group.count == 0 =>
                 Ok(Taken {
                     count: 1,
                     value: (),
                 }),
-            _ => Err(InternalError::Wrong(Wanted::Unit, rest.from)),
+            _ => Err(Fault::Wrong(Wanted::Unit, rest.from)),
         }
     }
 }

@@ -1,5 +1,5 @@
 ghost use Rattle.scalar.specs.Unsigneds.{unsigned_read, UnsignedWord, unsigned_of, between, IsUnsigned};
-ghost use Rattle.refusal.specs.declared.fault.Wanted.TheVariants as wanted;
+ghost use Rattle.token_de.specs.declared.fault.Wanted.TheVariants as wanted;
 ghost use Rattle.token_de.proofs.Trees.{single_lawful, single_exact};
 ghost use Rattle.std.specs.Prelude.{◌≡◌, ℕ, ◌≤◌, Some};
 ghost use Rattle.std.proofs.Common.{ap, ◌∙◌, arith};
@@ -15,9 +15,9 @@ ghost use Rattle.scalar.specs.Tokens.{token_one, integer_of, integer_bits};
 ghost use Rattle.scalar.specs.UnsignedWordsLemmas.{inside};
 
 use crate::integer::magnitude_of;
-use refusal::fault::{InternalError, Wanted};
 use sheet::sheet::Sheet;
 use sheet::spot::Rest;
+use token_de::fault::{Fault, Wanted};
 use token_de::seed::{Seed, Taken, Words, next_token};
 
 // An unsigned integer between two inclusive ends. Where the ends are in the wrong order it has no words.
@@ -53,11 +53,11 @@ impl Seed for Unsigned {
 
     ghost lawful = { λ s. single_lawful wanted.Unsigned (unsigned_of s) };
 
-    fn read(&self, sheet: &Sheet, rest: Rest) -> Result<Taken<u64>, InternalError> {
+    fn read(&self, sheet: &Sheet, rest: Rest) -> Result<Taken<u64>, Fault> {
         let token = next_token(sheet, rest, Wanted::Unsigned)?;
         match magnitude_of(token) {
             Some(value) if self.low <= value && value <= self.high => Ok(Taken { count: 1, value }),
-            _ => Err(InternalError::Wrong(Wanted::Unsigned, rest.from)),
+            _ => Err(Fault::Wrong(Wanted::Unsigned, rest.from)),
         }
     }
 }

@@ -1,7 +1,7 @@
 // Truth values.
+use crate::build::*;
+use crate::reads::*;
 use scalar::bool::Bool;
-use small_sheets::build::*;
-use small_sheets::reads::*;
 
 #[test]
 fn true_and_false_are_taken(rt: HostRuntime) -> Result<(), Fail> {

@@ -1,7 +1,7 @@
 // Characters.
+use crate::build::*;
+use crate::reads::*;
 use scalar::char::Char;
-use small_sheets::build::*;
-use small_sheets::reads::*;
 
 #[test]
 fn char_literals_are_taken(rt: HostRuntime) -> Result<(), Fail> {

@@ -1,12 +1,12 @@
 // Content, which takes any value, and ignored, which passes it over.
+use crate::build::*;
+use crate::reads::*;
 use content::any::AnyContent;
 use content::datum::{Counted, Datum};
 use content::ignored::IgnoredAny;
 use layout::record::Record;
 use scalar::text::TextPart;
 use sheet::text::Pool;
-use small_sheets::build::*;
-use small_sheets::reads::*;
 use std::process::Abort;
 
 const SIGN: u64 = 0x8000_0000_0000_0000;

@@ -1,4 +1,6 @@
 // Words behind one another, and the end of a run.
+use crate::build::*;
+use crate::reads::*;
 use even::even::Even;
 use scalar::bool::Bool;
 use scalar::char::Char;
@@ -8,8 +10,6 @@ use scalar::text::{Identifier, Str};
 use scalar::unit::EmptyParens;
 use scalar::unsigned::Unsigned;
 use sheet::sheet::Sheet;
-use small_sheets::build::*;
-use small_sheets::reads::*;
 use std::process::Abort;
 use token_de::cursor::TokenDe;
 use token_de::custom::Custom;

@@ -1,7 +1,7 @@
 // A customer's seed.
+use crate::build::*;
+use crate::reads::*;
 use even::even::Even;
-use small_sheets::build::*;
-use small_sheets::reads::*;
 use token_de::custom::Custom;
 
 #[test]

@@ -1,7 +1,7 @@
 // Numbers as the bits of an f64.
+use crate::build::*;
+use crate::reads::*;
 use scalar::float::Float;
-use small_sheets::build::*;
-use small_sheets::reads::*;
 
 const INFINITY: u64 = 0x7ff0_0000_0000_0000;
 

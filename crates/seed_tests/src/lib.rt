@@ -1,8 +1,10 @@
 // Tests of the seeds, each read through a cursor on a small sheet, and of the member list.
+#![tactic(auto)]
+
 #[cfg(test)]
 mod bools;
 #[cfg(test)]
-mod calls;
+mod build;
 #[cfg(test)]
 mod chars;
 #[cfg(test)]
@@ -15,6 +17,8 @@ mod evens;
 mod floats;
 #[cfg(test)]
 mod lists;
+#[cfg(test)]
+mod reads;
 #[cfg(test)]
 mod signeds;
 #[cfg(test)]

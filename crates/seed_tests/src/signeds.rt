@@ -1,7 +1,7 @@
 // Signed integers.
+use crate::build::*;
+use crate::reads::*;
 use scalar::signed::Signed;
-use small_sheets::build::*;
-use small_sheets::reads::*;
 use std::process::Abort;
 
 // The magnitude of the least i64.

@@ -1,8 +1,8 @@
 // Identifiers and texts.
+use crate::build::*;
+use crate::reads::*;
 use scalar::text::{Identifier, Str, TextPart};
 use sheet::text::Pool;
-use small_sheets::build::*;
-use small_sheets::reads::*;
 
 // A part of each pool, and a text without bytes at the end of it; NAMES has 19 bytes, STRINGS has 9.
 #[test]

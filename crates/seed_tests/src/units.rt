@@ -1,7 +1,7 @@
 // The unit value.
+use crate::build::*;
+use crate::reads::*;
 use scalar::unit::EmptyParens;
-use small_sheets::build::*;
-use small_sheets::reads::*;
 
 #[test]
 fn empty_parentheses_are_taken(rt: HostRuntime) -> Result<(), Fail> {

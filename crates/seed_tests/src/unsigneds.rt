@@ -1,7 +1,7 @@
 // Unsigned integers.
+use crate::build::*;
+use crate::reads::*;
 use scalar::unsigned::Unsigned;
-use small_sheets::build::*;
-use small_sheets::reads::*;
 use std::process::Abort;
 
 // The ends of a seed are taken, and the next number above them is refused.

@@ -1,4 +1,3 @@
-mod Clamped
 mod Made
 pub mod Lines
 pub mod Runs

@@ -1,4 +1,6 @@
 // The lawful sheet: its tokens, its trees and its runs.
+#![tactic(auto)]
+
 pub mod sheet;
 pub mod spot;
 pub mod text;

@@ -1,13 +1,13 @@
 // What a cursor shows of a sheet.
 use crate::build::*;
 use crate::kinds::*;
-use refusal::fault::{InternalError, Wanted};
 use sheet::sheet::Sheet;
 use sheet::token::{Delimiter, Integer, Literal};
 use sheet::tree::Tree;
 use std::process::Abort;
 use std::test::Fail;
 use token_de::cursor::TokenDe;
+use token_de::fault::{Fault, Wanted};
 
 // What the body of record 0 of `all_kinds` shows, in order.
 const SHOWN: [Seen<'static>; 12] = [
@@ -118,7 +118,7 @@ fn sheet_without_the_run_shows_nothing(rt: HostRuntime) -> Result<(), Fail> {
     let mut cursor = inside(&own, 0)?;
     check_next(&rt, &mut cursor, &own, 1, Seen::Ident(b"a"));
     check_end(&rt, &mut cursor, &other, None);
-    assert!(rt; cursor.text(&other).err() == Some(InternalError::Ended(Wanted::String, 0)));
+    assert!(rt; cursor.text(&other).err() == Some(Fault::Ended(Wanted::String, 0)));
     check_next(&rt, &mut cursor, &own, 2, Seen::Ident(b"b"));
     check_end(&rt, &mut cursor, &own, Some(2));
     Ok(())

@@ -1,7 +1,7 @@
 // The refusals as numbers and in words.
 use layout::fault::LoadFault;
-use refusal::fault::{InternalError, Wanted};
 use std::test::Fail;
+use token_de::fault::{Fault, Wanted};
 
 #[test]
 fn load_faults_have_numbers_and_words(rt: HostRuntime) -> Result<(), Fail> {
@@ -74,8 +74,8 @@ fn wanted_tokens_have_numbers_and_words(rt: HostRuntime) -> Result<(), Fail> {
     ];
     for (wanted, number, words) in cases {
         assert_eq!(rt; wanted.number(), number);
-        assert_eq!(rt; InternalError::Wrong(wanted, 2).detail(), number);
-        assert_eq!(rt; InternalError::Ended(wanted, 2).detail(), number);
+        assert_eq!(rt; Fault::Wrong(wanted, 2).detail(), number);
+        assert_eq!(rt; Fault::Ended(wanted, 2).detail(), number);
         let text = wanted.to_string(heap)?;
         assert_eq!(rt; text.as_str(), words);
     }
@@ -85,7 +85,7 @@ fn wanted_tokens_have_numbers_and_words(rt: HostRuntime) -> Result<(), Fail> {
 #[test]
 fn read_faults_have_numbers_and_words(rt: HostRuntime) -> Result<(), Fail> {
     let heap = rt.alloc();
-    let wrong = InternalError::Wrong(Wanted::String, 31);
+    let wrong = Fault::Wrong(Wanted::String, 31);
     assert_eq!(rt; wrong.number(), 10);
     assert_eq!(rt; wrong.record(), 31);
     let text = wrong.to_string(heap)?;
@@ -93,7 +93,7 @@ fn read_faults_have_numbers_and_words(rt: HostRuntime) -> Result<(), Fail> {
         text.as_str(),
         "expected a string, but found another token at record 31"
     );
-    let ended = InternalError::Ended(Wanted::Bool, 7);
+    let ended = Fault::Ended(Wanted::Bool, 7);
     assert_eq!(rt; ended.number(), 11);
     assert_eq!(rt; ended.record(), 7);
     let text = ended.to_string(heap)?;

@@ -1,4 +1,6 @@
 // Tests of a load and of what is read from a sheet, through the public calls alone.
+#![tactic(auto)]
+
 #[cfg(test)]
 mod bodies;
 #[cfg(test)]

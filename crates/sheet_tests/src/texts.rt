@@ -1,13 +1,13 @@
 // The text of a token, and where it is refused.
 use crate::build::*;
 use crate::kinds::*;
-use refusal::fault::{InternalError, Wanted};
 use sheet::sheet::Sheet;
 use sheet::text::Pool;
 use sheet::tree::Tree;
 use std::process::Abort;
 use std::test::Fail;
 use token_de::cursor::TokenDe;
+use token_de::fault::{Fault, Wanted};
 
 // A cursor at the start of the body of record 0.
 fn start(sheet: &Sheet) -> Result<TokenDe, Fail> {
@@ -95,6 +95,6 @@ fn no_text_is_left_in_an_empty_body(rt: HostRuntime) -> Result<(), Fail> {
     let mut root = TokenDe::new();
     assert!(rt; root.next(&sheet).is_some());
     check_no_text(&rt, &mut root, &sheet, 11, 0)?;
-    assert!(rt; root.text(&sheet).err() == Some(InternalError::Ended(Wanted::String, 0)));
+    assert!(rt; root.text(&sheet).err() == Some(Fault::Ended(Wanted::String, 0)));
     Ok(())
 }

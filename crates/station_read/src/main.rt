@@ -1,4 +1,6 @@
 // Loads a sheet file, prints its records as a tree, and then the values of the scalar members of record 0.
+#![tactic(auto)]
+
 mod failure;
 mod members;
 mod show;

@@ -2,7 +2,6 @@ use crate::failure::Failure;
 use crate::show::{show_bytes, show_char, show_string};
 use content::any::AnyContent;
 use content::datum::Datum;
-use refusal::fault::InternalError;
 use scalar::bool::Bool;
 use scalar::char::Char;
 use scalar::float::Float;
@@ -16,6 +15,7 @@ use sheet::tree::Tree;
 use std::fmt;
 use std::num::f64_from_bits_with_nan;
 use token_de::cursor::TokenDe;
+use token_de::fault::Fault;
 use token_de::seed::Seed;
 
 // The two pools of a sheet, which the parts that a seed reads lie in.
@@ -45,8 +45,8 @@ struct Misshapen {
     record: usize,
 }
 
-impl From<InternalError> for Misshapen {
-    fn from(fault: InternalError) -> Misshapen {
+impl From<Fault> for Misshapen {
+    fn from(fault: Fault) -> Misshapen {
         Misshapen {
             record: fault.record(),
         }
@@ -122,7 +122,7 @@ fn is_end(next: Option<(usize, Tree)>) -> bool {
 }
 
 // A truth value, or any other name.
-fn read_name(cursor: &mut TokenDe, sheet: &Sheet) -> Result<Datum, InternalError> {
+fn read_name(cursor: &mut TokenDe, sheet: &Sheet) -> Result<Datum, Fault> {
     if let Ok(truth) = cursor.read(sheet, &Bool) {
         return Ok(Datum::Bool(truth));
     }
@@ -130,7 +130,7 @@ fn read_name(cursor: &mut TokenDe, sheet: &Sheet) -> Result<Datum, InternalError
 }
 
 // A refused read leaves the cursor, so the next seed is tried. An integer that fits no width is read as a float.
-fn read_number(cursor: &mut TokenDe, sheet: &Sheet) -> Result<Datum, InternalError> {
+fn read_number(cursor: &mut TokenDe, sheet: &Sheet) -> Result<Datum, Fault> {
     if let Ok(number) = cursor.read(sheet, &Unsigned::U64) {
         return Ok(Datum::Unsigned(number));
     }
@@ -141,7 +141,7 @@ fn read_number(cursor: &mut TokenDe, sheet: &Sheet) -> Result<Datum, InternalErr
 }
 
 // The value that begins with this tree, through the seed that fits it: a group by content.
-fn read_fitting(cursor: &mut TokenDe, sheet: &Sheet, first: Tree) -> Result<Datum, InternalError> {
+fn read_fitting(cursor: &mut TokenDe, sheet: &Sheet, first: Tree) -> Result<Datum, Fault> {
     match first {
         Tree::Ident(_) => read_name(cursor, sheet),
         Tree::String(_) => Ok(Datum::Text(cursor.read(sheet, &Str)?)),

@@ -5,9 +5,9 @@ use Rattle.std.specs.Option.{ok_or}
 use Rattle.layout.specs.Rules.{Parts}
 use Rattle.sheet.specs.declared.spot.Spot.{Spot}
 use Rattle.sheet.specs.declared.spot.Rest.{Rest}
-use Rattle.refusal.specs.declared.fault.InternalError.{InternalError}
-use Rattle.refusal.specs.declared.fault.InternalError.TheVariants.{Wrong, Ended}
-use Rattle.refusal.specs.declared.fault.Wanted.TheVariants as wanted
+use Rattle.token_de.specs.declared.fault.Fault.{Fault}
+use Rattle.token_de.specs.declared.fault.Fault.TheVariants.{Wrong, Ended}
+use Rattle.token_de.specs.declared.fault.Wanted.TheVariants as wanted
 use Rattle.sheet.specs.Tokens.{token}
 use Rattle.sheet.specs.Spots.{rest, past}
 use Rattle.sheet.specs.Trees.{Seen, tree_of, if_there, Worded, text_of}
@@ -61,8 +61,8 @@ module _ (h : Parts) (s : Spot) (r : Rest) (is : r ≡ rest h s) where
 -- after a text read
 pub text_passes : (h : Parts) (s : Spot) (t : Worded) → Ok t ≡ text_read h s → passed_one h s ≡ text_after h s
 unfolding text_after
-text_passes h s t e = ap (λ (x : Result Worded InternalError). cond (is_ok x) (passed_one h s) s) e
+text_passes h s t e = ap (λ (x : Result Worded Fault). cond (is_ok x) (passed_one h s) s) e
 
-pub text_stays : (h : Parts) (s : Spot) (f : InternalError) → Err f ≡ text_read h s → s ≡ text_after h s
+pub text_stays : (h : Parts) (s : Spot) (f : Fault) → Err f ≡ text_read h s → s ≡ text_after h s
 unfolding text_after
-text_stays h s f e = ap (λ (x : Result Worded InternalError). cond (is_ok x) (passed_one h s) s) e
+text_stays h s f e = ap (λ (x : Result Worded Fault). cond (is_ok x) (passed_one h s) s) e

@@ -10,7 +10,7 @@ use Rattle.token_de.specs.Custom.{Whole}
 
 pub whole_exact : {V : Type 0} {m : Meaning V} → Lawful m → IsSet (Answer (Taken V)) → Exact m (Whole m)
 whole_exact {V} {m} law set = record {
-  some = λ h p q v w. omega (arith, w.0);
+  some = λ h p q v w. w.0;
   sound = λ h p e last t k run is.
       let o = law.within h p e last t k run is in
       let part = run_part h p e p (p + t.count) run (omega arith) (omega arith) o.1 in

@@ -16,10 +16,10 @@ use Rattle.sheet.specs.Spots.{Run, Passed}
 use Rattle.sheet.specs.Trees.{if_there}
 use Rattle.sheet.proofs.Runs.{run_fits, has_root}
 use Rattle.token_de.specs.declared.seed.Taken.{Taken}
-use Rattle.refusal.specs.declared.fault.InternalError.{InternalError}
-use Rattle.refusal.specs.declared.fault.InternalError.TheVariants.{Wrong, Ended, Data}
-use Rattle.refusal.specs.declared.fault.DataFault.TheVariants.{Custom}
-use Rattle.refusal.specs.declared.fault.Wanted.{Wanted}
+use Rattle.token_de.specs.declared.fault.Fault.{Fault}
+use Rattle.token_de.specs.declared.fault.Fault.TheVariants.{Wrong, Ended, Data}
+use Rattle.token_de.specs.declared.fault.DataFault.TheVariants.{Custom}
+use Rattle.token_de.specs.declared.fault.Wanted.{Wanted}
 use Rattle.token_de.specs.Meaning.{Answer, Meaning, Proper, Lawful, Grammar, Exact}
 use Rattle.token_de.specs.Steps.{◌then◌, next, tree, single, tested, One}
 
@@ -34,7 +34,7 @@ pub then_ok : {X Y : Type 0} (r : Answer X) (f : X → Answer Y) (y : Y) → r t
 then_ok (Ok x) f y e = (x, refl, e)
 then_ok (Err x) f y e = let z : ◌≡◌ {A = ℕ} 0 1 = cc in absurd (omega arith)
 
-pub then_err : {X Y : Type 0} (r : Answer X) (f : X → Answer Y) (e : InternalError) → r then f ≡ Err e → (r ≡ Err e) ⊎ ((x : X) × (r ≡ Ok x) × (f x ≡ Err e))
+pub then_err : {X Y : Type 0} (r : Answer X) (f : X → Answer Y) (e : Fault) → r then f ≡ Err e → (r ≡ Err e) ⊎ ((x : X) × (r ≡ Ok x) × (f x ≡ Err e))
 then_err (Ok x) f y e = inr (x, refl, e)
 then_err (Err x) f y e = inl (cc)
 
@@ -78,7 +78,7 @@ module _ {V : Type 0} (wanted : Wanted) (f : Parts → ℕ → Token → Answer 
   pub tree_is : (h : Parts) (p e : ℕ) (last : Option ℕ) (v : V) → p < e → p < length h.records → f h p (token h p) ≡ Ok v → tree wanted f h p e last ≡ Ok (record { count = 1; value = v })
   tree_is h p e last v lt in_range is = tree_left h p e last lt in_range ∙ ap (λ (r : Answer V). r then (λ v. Ok (record { count = 1; value = v }))) is
 
-  tree_err : (h : Parts) (p e : ℕ) (last : Option ℕ) (x : InternalError) → e ≤ length h.records → tree wanted f h p e last ≡ Err x → (Ended wanted (unwrap_or last 0) ≡ x) ⊎ ((p < length h.records) × (f h p (token h p) ≡ Err x))
+  tree_err : (h : Parts) (p e : ℕ) (last : Option ℕ) (x : Fault) → e ≤ length h.records → tree wanted f h p e last ≡ Err x → (Ended wanted (unwrap_or last 0) ≡ x) ⊎ ((p < length h.records) × (f h p (token h p) ≡ Err x))
   tree_err h p e last x inside is = ⊎_elim
       (λ (lt : p < e). ⊎_elim
       (λ none. inr (omega arith, none))
@@ -88,7 +88,7 @@ module _ {V : Type 0} (wanted : Wanted) (f : Parts → ℕ → Token → Answer 
       (cases_lt p e)
 
   -- such a seed is lawful if the faults of its token are proper
-  pub tree_lawful : ((h : Parts) (p : ℕ) (x : InternalError) → Kept limits h → p < length h.records → f h p (token h p) ≡ Err x → Proper h x) → Lawful (tree wanted f)
+  pub tree_lawful : ((h : Parts) (p : ℕ) (x : Fault) → Kept limits h → p < length h.records → f h p (token h p) ≡ Err x → Proper h x) → Lawful (tree wanted f)
   tree_lawful proper = record {
     within = λ h p e last t k run is. let o = tree_ok h p e last t (run_inside h p e k run) is in omega (arith, o.0, o.1);
     stable = λ h p e g last before t k run other le is.
@@ -102,24 +102,24 @@ module _ {V : Type 0} (wanted : Wanted) (f : Parts → ℕ → Token → Answer 
   }
 
   module _ (W : Parts → ℕ → V → Type 0)
-      (f_sound : (h : Parts) (p : ℕ) (v : V) → Kept limits h → f h p (token h p) ≡ Ok v → W h p v)
-      (f_complete : (h : Parts) (p : ℕ) (v : V) → Kept limits h → W h p v → f h p (token h p) ≡ Ok v)
-      (f_one : (h : Parts) (p : ℕ) (v : V) → Kept limits h → (x y : W h p v) → x ≡ y) where
+      (f_sound : (h : Parts) (p : ℕ) (v : V) → f h p (token h p) ≡ Ok v → W h p v)
+      (f_complete : (h : Parts) (p : ℕ) (v : V) → W h p v → f h p (token h p) ≡ Ok v)
+      (f_one : (h : Parts) (p : ℕ) (v : V) → (x y : W h p v) → x ≡ y) where
     pub tree_exact : Exact (tree wanted f) (One W)
     tree_exact = record {
       some = λ h p q v w. omega (arith, w.0);
       sound = λ h p e last t k run is.
           let o = tree_ok h p e last t (run_inside h p e k run) is in
-          (ap (λ n. p + n) o.1, f_sound h p t.value k o.2);
+          (ap (λ n. p + n) o.1, f_sound h p t.value o.2);
       complete = λ h p q e last v k run le w.
           let one : 1 ≡ q - p = omega (arith, w.0) in
-          tree_is h p e last v (omega (arith, w.0)) (omega (arith, w.0, run_inside h p e k run)) (f_complete h p v k w.1) ∙ ap (λ n. Ok (record { count = n; value = v })) one;
-      one = λ h p q v k. ×_prop (ℕ_set q (p + 1)) (f_one h p v k);
+          tree_is h p e last v (omega (arith, w.0)) (omega (arith, w.0, run_inside h p e k run)) (f_complete h p v w.1) ∙ ap (λ n. Ok (record { count = n; value = v })) one;
+      one = λ h p q v k. ×_prop (ℕ_set q (p + 1)) (f_one h p v);
     }
 
 -- a single token whose value is an option: its one refusal names it
 module _ {V : Type 0} (wanted : Wanted) (f : Parts → Token → Option V) where
-  pub or_wrong : {A : Type 0} (o : Option A) (p : ℕ) (x : InternalError) → ok_or o (Wrong wanted p) ≡ Err x → Wrong wanted p ≡ x
+  pub or_wrong : {A : Type 0} (o : Option A) (p : ℕ) (x : Fault) → ok_or o (Wrong wanted p) ≡ Err x → Wrong wanted p ≡ x
   or_wrong (Some a) p x is = absurd (let z : ◌≡◌ {A = ℕ} 0 1 = cc in omega arith)
   or_wrong None p x is = cc
 
@@ -137,9 +137,9 @@ module _ {V : Type 0} (wanted : Wanted) (f : Parts → Token → Option V) where
       (f_one : (h : Parts) (p : ℕ) (v : V) → (x y : W h p v) → x ≡ y) where
     pub single_exact : Exact (single wanted f) (One W)
     single_exact = tree_exact wanted (λ h p t. ok_or (f h t) (Wrong wanted p)) W
-        (λ h p v k is. f_sound h p v (or_some (f h (token h p)) p v is))
-        (λ h p v k w. ap (λ (o : Option V). ok_or o (Wrong wanted p)) (f_complete h p v w))
-        (λ h p v k. f_one h p v)
+        (λ h p v is. f_sound h p v (or_some (f h (token h p)) p v is))
+        (λ h p v w. ap (λ (o : Option V). ok_or o (Wrong wanted p)) (f_complete h p v w))
+        f_one
 
 -- a single token whose value passes a test: it is a wrong token, or a data fault at record 0
 module _ {V : Type 0} (wanted : Wanted) (f : Parts → Token → Option V) (test : V → Bool) (detail : ℕ) (low : 100 ≤ detail) (high : detail ≤ 255) where
@@ -150,6 +150,6 @@ module _ {V : Type 0} (wanted : Wanted) (f : Parts → Token → Option V) (test
       (λ some. subst (Proper h) (failed some.0 (test some.0) x some.2) (record { inside = has_root h (rules_kept limits h k); ranged = (low, high) }))
       (then_err (ok_or (f h (token h p)) (Wrong wanted p)) (λ v. cond (test v) (Ok v) (Err (Data (Custom detail) 0))) x is))
     where
-      failed : (v : V) (b : Bool) (x : InternalError) → cond b (Ok v) (Err (Data (Custom detail) 0)) ≡ Err x → Data (Custom detail) 0 ≡ x
+      failed : (v : V) (b : Bool) (x : Fault) → cond b (Ok v) (Err (Data (Custom detail) 0)) ≡ Err x → Data (Custom detail) 0 ≡ x
       failed v true x is = absurd (let z : ◌≡◌ {A = ℕ} 0 1 = cc in omega arith)
       failed v false x is = cc

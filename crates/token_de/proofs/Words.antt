@@ -6,7 +6,7 @@ use Rattle.sheet.specs.declared.spot.Spot.{Spot}
 use Rattle.sheet.specs.declared.spot.Rest.{Rest}
 use Rattle.sheet.specs.Spots.{Run, rest, past}
 use Rattle.token_de.specs.declared.seed.Taken.{Taken}
-use Rattle.refusal.specs.declared.fault.InternalError.{InternalError}
+use Rattle.token_de.specs.declared.fault.Fault.{Fault}
 use Rattle.token_de.specs.Meaning.{Answer, Meaning, Lawful, Grammar, Exact}
 use Rattle.token_de.specs.Reading.{Begins, Accepted, Refused}
 use Rattle.token_de.proofs.Trees.{joined}
@@ -49,7 +49,7 @@ module _ {V : Type 0} {m : Meaning V} {w : Grammar V} (exact : Exact m w) where
           }
 
   -- and refused
-  pub refuses : (h : Parts) (s : Spot) (r : Rest) (f : InternalError) → Kept limits h → r ≡ rest h s → Run h r.from r.to → Err f ≡ m h r.from r.to r.last → Refused m w h s s f
+  pub refuses : (h : Parts) (s : Spot) (r : Rest) (f : Fault) → Kept limits h → r ≡ rest h s → Run h r.from r.to → Err f ≡ m h r.from r.to r.last → Refused m w h s s f
   refuses h s r f k is run no_word =
       let there = subst (λ (x : Rest). Run h x.from x.to) is run in
       let fault = no_word ∙ ap (λ (x : Rest). m h x.from x.to x.last) is in

@@ -5,9 +5,9 @@ use Rattle.layout.specs.Rules.{Parts}
 use Rattle.sheet.specs.declared.tree.Tree.{Tree}
 use Rattle.sheet.specs.declared.spot.Spot.{Spot}
 use Rattle.sheet.specs.declared.text.Text.{Text}
-use Rattle.refusal.specs.declared.fault.InternalError.{InternalError}
-use Rattle.refusal.specs.declared.fault.InternalError.TheVariants.{Wrong, Ended}
-use Rattle.refusal.specs.declared.fault.Wanted.TheVariants as wanted
+use Rattle.token_de.specs.declared.fault.Fault.{Fault}
+use Rattle.token_de.specs.declared.fault.Fault.TheVariants.{Wrong, Ended}
+use Rattle.token_de.specs.declared.fault.Wanted.TheVariants as wanted
 use Rattle.sheet.specs.Tokens.{token}
 use Rattle.sheet.specs.Spots.{rest, past}
 use Rattle.sheet.specs.Trees.{Seen, seen, tree_of, Worded, worded, text_of}
@@ -24,12 +24,12 @@ unfoldable pub passed_one : Parts → Spot → Spot
 passed_one h s = let r = rest h s in cond (nat_lt r.from r.to) (past s (r.from + 1)) s
 
 -- TEXT: that of an identifier or a string literal
-abbrev pub text_shown : Result Text InternalError → Result Worded InternalError
+abbrev pub text_shown : Result Text Fault → Result Worded Fault
 text_shown (Ok t) = Ok (worded t)
 text_shown (Err f) = Err f
 
 -- where no token is left, the last one passed is named, else record 0
-unfoldable pub text_read : Parts → Spot → Result Worded InternalError
+unfoldable pub text_read : Parts → Spot → Result Worded Fault
 text_read h s = let r = rest h s in cond (nat_lt r.from r.to) (ok_or (text_of h (token h r.from)) (Wrong wanted.String r.from)) (Err (Ended wanted.String (unwrap_or r.last 0)))
 
 -- an accepted read passes its tree, a refused one nothing

@@ -1,3 +1,4 @@
+pub mod Faults
 pub mod Cursors
 pub mod Meaning
 pub mod Steps

@@ -3,50 +3,42 @@ use Rattle.std.specs.Prelude.{◌≡◌, ℕ, ◌+◌, ◌-◌, ◌<◌, ◌≤�
 use Rattle.layout.specs.Rules.{Parts, limits, Kept}
 use Rattle.sheet.specs.Spots.{Run, Passed}
 use Rattle.token_de.specs.declared.seed.Taken.{Taken}
-use Rattle.refusal.specs.declared.fault.InternalError.{InternalError}
-use Rattle.refusal.specs.Faults.{at, Ranged}
+use Rattle.token_de.specs.declared.fault.Fault.{Fault}
+use Rattle.token_de.specs.Faults.{at, Ranged}
 
 abbrev pub Answer : Type 0 → Type 0
-Answer X = Result X InternalError
+Answer X = Result X Fault
 
 -- what a seed answers on the run of a sheet from p up to e, after the last token passed: the trees that it takes and
 -- their value, or its fault
 abbrev pub Meaning : Type 0 → Type 0
 Meaning V = Parts → ℕ → ℕ → Option ℕ → Answer (Taken V)
 
--- a refusal names records of the sheet, and a customer's data fault has a detail from 100 to 255
-pub record Proper (h : Parts) (f : InternalError) : Type 0 where
+-- a refusal names a record of the sheet, and a customer's data fault has a detail from 100 to 255
+pub record Proper (h : Parts) (f : Fault) : Type 0 where
   pub inside : at f < length h.records
-  pub ranged : Ranged h f
+  pub ranged : Ranged f
 
--- a meaning that takes at least so many trees
-pub record Steady {V : Type 0} (least : ℕ) (m : Meaning V) : Type 0 where
-  -- it takes at least so many trees, and none past the run's end
-  pub within : (h : Parts) (p e : ℕ) (last : Option ℕ) (t : Taken V) → Kept limits h → Run h p e → m h p e last ≡ Ok t → (least ≤ t.count) × (p + t.count ≤ e)
+-- what each seed shows of its meaning
+pub record Lawful {V : Type 0} (m : Meaning V) : Type 0 where
+  -- it takes at least one tree, and none past the run's end
+  pub within : (h : Parts) (p e : ℕ) (last : Option ℕ) (t : Taken V) → Kept limits h → Run h p e → m h p e last ≡ Ok t → (0 < t.count) × (p + t.count ≤ e)
   -- and the same from every run of the sheet that begins with the trees that it took, whatever was passed before
   pub stable : (h : Parts) (p e f : ℕ) (last before : Option ℕ) (t : Taken V) → Kept limits h → Run h p e → Run h p f → p + t.count ≤ f → m h p e last ≡ Ok t → m h p f before ≡ Ok t
   -- its refusals are proper
-  pub refuses : (h : Parts) (p e : ℕ) (last : Option ℕ) (f : InternalError) → Kept limits h → Run h p e → Passed h last → m h p e last ≡ Err f → Proper h f
-
--- what each seed shows of its meaning: it takes at least one tree
-abbrev pub Lawful : {V : Type 0} → Meaning V → Type 0
-Lawful m = Steady 1 m
+  pub refuses : (h : Parts) (p e : ℕ) (last : Option ℕ) (f : Fault) → Kept limits h → Run h p e → Passed h last → m h p e last ≡ Err f → Proper h f
 
 -- `w h p q v` is a reading of the records from p up to q as a word with the value v
 abbrev pub Grammar : Type 0 → Type 1
 Grammar V = Parts → ℕ → ℕ → V → Type 0
 
 -- a grammar is that of a meaning
-pub record Fits {V : Type 0} (least : ℕ) (m : Meaning V) (w : Grammar V) : Type 0 where
-  -- a word has at least so many tokens
-  pub some : (h : Parts) (p q : ℕ) (v : V) → w h p q v → p + least ≤ q
+pub record Exact {V : Type 0} (m : Meaning V) (w : Grammar V) : Type 0 where
+  -- a word has a token
+  pub some : (h : Parts) (p q : ℕ) (v : V) → w h p q v → p < q
   -- what is taken is a word, with that value
   pub sound : (h : Parts) (p e : ℕ) (last : Option ℕ) (t : Taken V) → Kept limits h → Run h p e → m h p e last ≡ Ok t → w h p (p + t.count) t.value
   -- where a run begins with a word, that word is taken, with its value
   pub complete : (h : Parts) (p q e : ℕ) (last : Option ℕ) (v : V) → Kept limits h → Run h p e → q ≤ e → w h p q v → m h p e last ≡ Ok (record { count = q - p; value = v })
   -- no word has two readings
   pub one : (h : Parts) (p q : ℕ) (v : V) → Kept limits h → (x y : w h p q v) → x ≡ y
-
--- what each seed with a grammar shows: its words have a token
-abbrev pub Exact : {V : Type 0} → Meaning V → Grammar V → Type 0
-Exact m w = Fits 1 m w

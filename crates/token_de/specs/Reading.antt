@@ -3,7 +3,7 @@ use Rattle.std.specs.Prelude.{◌≡◌, ℕ, ◌≤◌, Err}
 use Rattle.layout.specs.Rules.{Parts}
 use Rattle.sheet.specs.declared.spot.Spot.{Spot}
 use Rattle.sheet.specs.Spots.{rest, past}
-use Rattle.refusal.specs.declared.fault.InternalError.{InternalError}
+use Rattle.token_de.specs.declared.fault.Fault.{Fault}
 use Rattle.token_de.specs.Meaning.{Meaning, Grammar}
 
 -- a word that the run from p up to e begins with: where it ends, its value, and its reading
@@ -20,7 +20,7 @@ pub record Accepted {V : Type 0} (w : Grammar V) (h : Parts) (before after : Spo
   pub passes : after ≡ past before end
 
 -- refused: the rest begins with no word, the fault is that of the seed's meaning, and the cursor stays
-pub record Refused {V : Type 0} (m : Meaning V) (w : Grammar V) (h : Parts) (before after : Spot) (f : InternalError) : Type 0 where
+pub record Refused {V : Type 0} (m : Meaning V) (w : Grammar V) (h : Parts) (before after : Spot) (f : Fault) : Type 0 where
   pub none : Begins w h (rest h before).from (rest h before).to → ⊥
   pub fault : m h (rest h before).from (rest h before).to (rest h before).last ≡ Err f
   pub stays : after ≡ before

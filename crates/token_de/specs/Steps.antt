@@ -5,9 +5,9 @@ use Rattle.layout.specs.Rules.{Parts}
 use Rattle.sheet.specs.declared.token.Token.{Token}
 use Rattle.sheet.specs.Tokens.{token}
 use Rattle.sheet.specs.Trees.{if_there}
-use Rattle.refusal.specs.declared.fault.Wanted.{Wanted}
-use Rattle.refusal.specs.declared.fault.InternalError.TheVariants.{Wrong, Ended, Data}
-use Rattle.refusal.specs.declared.fault.DataFault.TheVariants.{Custom}
+use Rattle.token_de.specs.declared.fault.Wanted.{Wanted}
+use Rattle.token_de.specs.declared.fault.Fault.TheVariants.{Wrong, Ended, Data}
+use Rattle.token_de.specs.declared.fault.DataFault.TheVariants.{Custom}
 use Rattle.token_de.specs.Meaning.{Answer, Meaning, Grammar}
 
 abbrev pub ◌then◌ : {X Y : Type 0} → Answer X → (X → Answer Y) → Answer Y
@@ -31,10 +31,6 @@ single wanted f = tree wanted (λ h p t. ok_or (f h t) (Wrong wanted p))
 abbrev pub tested : {V : Type 0} → Wanted → (Parts → Token → Option V) → (V → Bool) → ℕ → Meaning V
 tested wanted f test detail =
     tree wanted (λ h p t. ok_or (f h t) (Wrong wanted p) then (λ v. cond (test v) (Ok v) (Err (Data (Custom detail) 0))))
-
--- what is taken, with another value
-abbrev pub mapped : {V W : Type 0} → (V → W) → Meaning V → Meaning W
-mapped f m h p e last = m h p e last then (λ t. Ok (record { count = t.count; value = f t.value }))
 
 -- words of one tree, of which W says which it is
 abbrev pub One : {V : Type 0} → (Parts → ℕ → V → Type 0) → Grammar V

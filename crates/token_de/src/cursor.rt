@@ -3,7 +3,7 @@ ghost use Rattle.sheet.specs.Sheets.{held};
 ghost use Rattle.sheet.specs.Spots.{at_root, at_body, rest};
 ghost use Rattle.token_de.specs.Cursors.{peeked, peek_shown, passed_one, text_shown, text_read, text_after};
 
-use refusal::fault::{InternalError, Wanted};
+use crate::fault::{Fault, Wanted};
 use sheet::sheet::Sheet;
 use sheet::spot::{Body, Spot};
 use sheet::text::Text;
@@ -31,20 +31,6 @@ impl TokenDe {
         TokenDe {
             at: Spot::within(body),
         }
-    }
-
-    // Where a spot is.
-    pub fn standing(at: Spot) -> TokenDe
-        ensures { result.at ≡ at }
-    {
-        TokenDe { at }
-    }
-
-    // Its spot.
-    pub fn spot(&self) -> Spot
-        ensures { result ≡ self.now.at }
-    {
-        self.at
     }
 
     // The last token passed, if any.
@@ -81,16 +67,16 @@ impl TokenDe {
     }
 
     // The text of the next token, an identifier or a string literal, which is passed.
-    pub fn text<'a>(&mut self, sheet: &Sheet<'a>) -> Result<Text<'a>, InternalError>
+    pub fn text<'a>(&mut self, sheet: &Sheet<'a>) -> Result<Text<'a>, Fault>
         ensures answer { text_shown result ≡ text_read (held sheet.now) self.old.at }
         ensures passes { self.new.at ≡ text_after (held sheet.now) self.old.at }
     {
         let rest = sheet.rest(self.at);
         if rest.from >= rest.to {
-            return Err(InternalError::Ended(Wanted::String, rest.last.unwrap_or(0)));
+            return Err(Fault::Ended(Wanted::String, rest.last.unwrap_or(0)));
         }
         let Some(text) = sheet.text(rest.from) else {
-            return Err(InternalError::Wrong(Wanted::String, rest.from));
+            return Err(Fault::Wrong(Wanted::String, rest.from));
         };
         self.at = self.at.past(rest.from + 1);
         Ok(text)

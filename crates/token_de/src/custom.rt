@@ -1,7 +1,7 @@
 ghost use Rattle.token_de.specs.Custom.{Whole};
 
+use crate::fault::Fault;
 use crate::seed::{Seed, Taken, Words};
-use refusal::fault::InternalError;
 use sheet::sheet::Sheet;
 use sheet::spot::Rest;
 
@@ -18,7 +18,7 @@ impl<S: Seed> Seed for Custom<S> {
 
     ghost lawful = { λ s. S.Seed.lawful s.seed };
 
-    fn read(&self, sheet: &Sheet, rest: Rest) -> Result<Taken<S::Value>, InternalError> {
+    fn read(&self, sheet: &Sheet, rest: Rest) -> Result<Taken<S::Value>, Fault> {
         self.seed.read(sheet, rest)
     }
 }

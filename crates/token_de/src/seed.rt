@@ -1,10 +1,10 @@
-ghost use Rattle.std.specs.Prelude.{◌≡◌, ◌+◌, ◌<◌, ◌≤◌, IfOk};
+ghost use Rattle.std.specs.Prelude.{◌≡◌};
 ghost use Rattle.sheet.specs.Sheets.{held};
 ghost use Rattle.sheet.specs.Spots.{Run};
 ghost use Rattle.token_de.specs.Meaning.{Meaning, Lawful, Grammar, Exact};
 ghost use Rattle.token_de.specs.Steps.{next};
 
-use refusal::fault::{InternalError, Wanted};
+use crate::fault::{Fault, Wanted};
 use sheet::sheet::Sheet;
 use sheet::spot::Rest;
 use sheet::token::Token;
@@ -23,18 +23,9 @@ pub trait Seed {
     // what it answers on a run, after the last token passed
     ghost meaning: { Self → Meaning Self.Value };
 
-    fn read(&self, sheet: &Sheet, rest: Rest) -> Result<Taken<Self::Value>, InternalError>
+    fn read(&self, sheet: &Sheet, rest: Rest) -> Result<Taken<Self::Value>, Fault>
         requires { Run (held sheet.now) rest.from rest.to }
         ensures { result ≡ meaning self.now (held sheet.now) rest.from rest.to rest.last };
-
-    // The same: what it takes is at least one tree, and none past the end.
-    fn take(&self, sheet: &Sheet, rest: Rest) -> Result<Taken<Self::Value>, InternalError>
-        requires { Run (held sheet.now) rest.from rest.to }
-        ensures value { result ≡ meaning self.now (held sheet.now) rest.from rest.to rest.last }
-        ensures within { IfOk result (λ t. (0 < t.count) × (rest.from + t.count ≤ rest.to)) }
-    {
-        self.read(sheet, rest)
-    }
 
     ghost lawful: { (s : Self) → Lawful (meaning s) };
 }
@@ -47,10 +38,10 @@ pub trait Words: Seed {
 }
 
 // The next token of a run; `wanted` says what was to stand there.
-pub fn next_token(sheet: &Sheet, rest: Rest, wanted: Wanted) -> Result<Token, InternalError>
+pub fn next_token(sheet: &Sheet, rest: Rest, wanted: Wanted) -> Result<Token, Fault>
     ensures { result ≡ next wanted (held sheet.now) rest.from rest.to rest.last }
 {
-    let ended = InternalError::Ended(wanted, rest.last.unwrap_or(0));
+    let ended = Fault::Ended(wanted, rest.last.unwrap_or(0));
     if rest.from >= rest.to {
         return Err(ended);
     }

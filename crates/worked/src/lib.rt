@@ -1,3 +1,5 @@
+#![tactic(auto)]
+
 ghost use Rattle.worked.specs.Lines.{WorkedLines};
 
 // Small sheets, and what the seeds read of them: each line is computed from the definitions by the prover.

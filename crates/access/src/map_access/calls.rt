@@ -1,13 +1,13 @@
-ghost use Rattle.std.specs.Prelude.{◌≡◌};
+ghost use Rattle.std.specs.Prelude.{◌≡◌, ℕ, ◌+◌, ◌<◌, ◌≤◌, IfOk, Ok, Err};
 ghost use Rattle.sheet.specs.Sheets.{held};
-ghost use Rattle.sheet.specs.Spots.{at_root, at_body};
+ghost use Rattle.sheet.specs.Spots.{Run, at_root, at_body};
 ghost use Rattle.access.specs.Plain.{marked, named, key_read, value_read, finished, key_shown, value_shown, finish_shown};
 
 use super::{KeyTurn, NextKey, ValueTurn};
-use refusal::fault::InternalError;
 use sheet::sheet::Sheet;
 use sheet::spot::{Body, Rest, Spot};
 use sheet::token::{Punct, Token};
+use token_de::fault::Fault;
 use token_de::seed::{Seed, Taken};
 
 // Whether this punct stands at `at`, before the end `to`.
@@ -23,14 +23,22 @@ pub fn is_mark(sheet: &Sheet, punct: Punct, at: usize, to: usize) -> bool
     }
 }
 
+// What a seed takes of a rest: at least one tree, and none past its end.
+pub(crate) fn take<S: Seed>(sheet: &Sheet, rest: Rest, seed: &S) -> Result<Taken<S::Value>, Fault>
+    requires { Run (held sheet.now) rest.from rest.to }
+    ensures value { result ≡ S.Seed.meaning seed.now (held sheet.now) rest.from rest.to rest.last }
+    ensures within { IfOk result (λ t. (0 < t.count) × (rest.from + t.count ≤ rest.to)) }
+{
+    seed.read(sheet, rest)
+}
+
 // A data fault that stands at record 0 is named by the first token of the value, if there is one.
-fn named(fault: InternalError, rest: Rest) -> InternalError
+fn named(fault: Fault, rest: Rest) -> Fault
     ensures { result ≡ named rest.from rest.to fault }
 {
-    if rest.from < rest.to {
-        fault.named(rest.from)
-    } else {
-        fault
+    match fault {
+        Fault::Data(data, 0) if rest.from < rest.to => Fault::Data(data, rest.from),
+        _ => fault,
     }
 }
 
@@ -63,14 +71,14 @@ impl KeyTurn {
         self,
         sheet: &Sheet,
         seed: &K,
-    ) -> Result<NextKey<K::Value>, (KeyTurn, InternalError)>
+    ) -> Result<NextKey<K::Value>, (KeyTurn, Fault)>
         ensures { key_shown result ≡ key_read (held sheet.now) (K.Seed.meaning seed.now) self.at }
     {
         let rest = sheet.rest(self.at);
         if rest.from == rest.to {
             return Ok(NextKey::None(self));
         }
-        match seed.take(sheet, rest) {
+        match take(sheet, rest, seed) {
             Ok(Taken { count, value }) => {
                 let next = rest.from + count;
                 if is_mark(sheet, Punct::EQUALS, next, rest.to) {
@@ -78,19 +86,19 @@ impl KeyTurn {
                     return Ok(NextKey::Key(value, ValueTurn { at: behind_equals }));
                 }
                 let found = if next < rest.to { next } else { rest.from };
-                Err((self, InternalError::NoEquals(found)))
+                Err((self, Fault::NoEquals(found)))
             }
             Err(fault) => Err((self, fault)),
         }
     }
 
     // Ends the list, where nothing is left.
-    pub fn finish(self, sheet: &Sheet) -> Result<(), (KeyTurn, InternalError)>
+    pub fn finish(self, sheet: &Sheet) -> Result<(), (KeyTurn, Fault)>
         ensures { finish_shown self.at result ≡ finished (held sheet.now) self.at }
     {
         let rest = sheet.rest(self.at);
         if rest.from < rest.to {
-            return Err((self, InternalError::Leftover(rest.from)));
+            return Err((self, Fault::Leftover(rest.from)));
         }
         Ok(())
     }
@@ -102,11 +110,11 @@ impl ValueTurn {
         self,
         sheet: &Sheet,
         seed: &V,
-    ) -> Result<(V::Value, KeyTurn), (ValueTurn, InternalError)>
+    ) -> Result<(V::Value, KeyTurn), (ValueTurn, Fault)>
         ensures { value_shown result ≡ value_read (held sheet.now) (V.Seed.meaning seed.now) self.at }
     {
         let rest = sheet.rest(self.at);
-        match seed.take(sheet, rest) {
+        match take(sheet, rest, seed) {
             Ok(Taken { count, value }) => {
                 let next = rest.from + count;
                 if next == rest.to {
@@ -117,7 +125,7 @@ impl ValueTurn {
                     let behind_comma = self.at.past(next + 1);
                     return Ok((value, KeyTurn { at: behind_comma }));
                 }
-                Err((self, InternalError::NoSeparator(next)))
+                Err((self, Fault::NoSeparator(next)))
             }
             Err(fault) => Err((self, named(fault, rest))),
         }

@@ -11,8 +11,8 @@ use Rattle.sheet.specs.Spots.{stands, rest}
 use Rattle.sheet.specs.Tokens.{token}
 use Rattle.sheet.specs.Trees.{Worded, text_of}
 use Rattle.sheet.proofs.Runs.{rest_full, rest_nothing}
-use Rattle.refusal.specs.declared.fault.InternalError.TheVariants.{Wrong, Ended}
-use Rattle.refusal.specs.declared.fault.Wanted.TheVariants as wanted
+use Rattle.token_de.specs.declared.fault.Fault.TheVariants.{Wrong, Ended}
+use Rattle.token_de.specs.declared.fault.Wanted.TheVariants as wanted
 use Rattle.token_de.specs.declared.seed.Taken.{Taken}
 use Rattle.token_de.specs.Cursors.{text_read}
 use Rattle.token_de.specs.Meaning.{Answer}

@@ -2,8 +2,8 @@ use Rattle.std.proofs.Common.{◌≡◌, ℕ, Some, None, Ok, Err, ap, ◌∙◌
 use Rattle.sheet.specs.Sheets.{held}
 use Rattle.sheet.specs.Tokens.{token}
 use Rattle.sheet.specs.Trees.{worded, text_of}
-use Rattle.refusal.specs.declared.fault.InternalError.TheVariants.{Wrong, Ended}
-use Rattle.refusal.specs.declared.fault.Wanted.TheVariants as wanted
+use Rattle.token_de.specs.declared.fault.Fault.TheVariants.{Wrong, Ended}
+use Rattle.token_de.specs.declared.fault.Wanted.TheVariants as wanted
 use Rattle.token_de.specs.Cursors.{text_read}
 use Rattle.token_de.proofs.Cursors.{there, reads, ends, passes, text_passes, text_stays}
 use Rattle.token_de.proofs.cursor.TokenDe.text.Goals as goal

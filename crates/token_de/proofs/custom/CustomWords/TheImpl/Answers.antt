@@ -2,7 +2,7 @@ use base.Stored.{Coded-set}
 use Rattle.token_de.specs.Meaning.{Answer}
 use Rattle.token_de.specs.declared.seed.Taken.{Taken}
 use Rattle.token_de.specs.contracts.seed.Taken as taken
-use Rattle.refusal.specs.contracts.fault.InternalError as fault
+use Rattle.token_de.specs.contracts.fault.Fault as fault
 use Rattle.token_de.proofs.Customs.{whole_exact}
 use Rattle.token_de.proofs.custom.CustomWords.TheImpl.Goals as goal
 

@@ -1,0 +1,100 @@
+// Reads through one seed at the start of record 0's body, and checks the answer and where the cursor stands.
+use crate::build::*;
+use layout::record::Record;
+use sheet::sheet::Sheet;
+use sheet::tree::Tree;
+use std::fmt::Debug;
+use std::process::Abort;
+use std::test::Fail;
+use token_de::cursor::TokenDe;
+use token_de::seed::Words;
+
+// The number, the record and the detail of a refusal.
+pub type Refusal = (u8, usize, u8);
+
+// The sheet of these records.
+pub fn sheet_of<'a>(records: &'a [Record]) -> Sheet<'a> {
+    Sheet::new(records.len(), records, NAMES, STRINGS)
+}
+
+// A cursor at the start of the body of record 0, where the sheet has all of the records.
+pub fn start(rt: &impl Abort, sheet: &Sheet, records: &[Record]) -> Result<TokenDe, Fail> {
+    assert_eq!(rt; sheet.count(), records.len(), "the records break a rule");
+    match sheet.tree(0) {
+        Some(Tree::Group(_, body)) => Ok(TokenDe::within(body)),
+        _ => Err(Fail::new("no group")),
+    }
+}
+
+// The seed refuses what is next, and the cursor stays.
+pub fn check_stays<S: Words>(
+    rt: &impl Abort,
+    cursor: &mut TokenDe,
+    sheet: &Sheet,
+    seed: &S,
+    want: Refusal,
+) -> Result<(), Fail> {
+    let before = *cursor;
+    let Err(fault) = cursor.read(sheet, seed) else {
+        return Err(Fail::new("taken"));
+    };
+    assert_eq!(rt; (fault.number(), fault.record(), fault.detail()), want);
+    assert!(rt; *cursor == before, "the cursor moved");
+    Ok(())
+}
+
+// The seed refuses these records.
+pub fn check_refused<S: Words>(
+    rt: &impl Abort,
+    seed: &S,
+    records: &[Record],
+    want: Refusal,
+) -> Result<(), Fail> {
+    let sheet = sheet_of(records);
+    check_stays(rt, &mut start(rt, &sheet, records)?, &sheet, seed, want)
+}
+
+// The seed refuses each of these tokens before a comma: 10 at the token.
+pub fn check_none<S: Words>(
+    rt: &impl Abort,
+    seed: &S,
+    tokens: &[Record],
+    detail: u8,
+) -> Result<(), Fail> {
+    for token in tokens {
+        check_refused(rt, seed, &one(*token), (10, 1, detail)).note(format_args!("{token:?}"))?;
+    }
+    Ok(())
+}
+
+// The seed refuses each of these tokens behind a `-`: 10 at the `-`.
+pub fn check_none_behind_minus<S: Words>(
+    rt: &impl Abort,
+    seed: &S,
+    tokens: &[Record],
+    detail: u8,
+) -> Result<(), Fail> {
+    for token in tokens {
+        check_refused(rt, seed, &minus(*token), (10, 1, detail)).note(format_args!("- {token:?}"))?;
+    }
+    Ok(())
+}
+
+// The seed takes a word of this value, and `last` is the word's last record.
+pub fn check_taken<S: Words>(
+    rt: &impl Abort,
+    seed: &S,
+    records: &[Record],
+    want: S::Value,
+    last: usize,
+) -> Result<(), Fail>
+where
+    S::Value: PartialEq + Debug,
+{
+    let sheet = sheet_of(records);
+    let mut cursor = start(rt, &sheet, records)?;
+    let value = cursor.read(&sheet, seed)?;
+    assert_eq!(rt; value, want);
+    assert_eq!(rt; cursor.last(&sheet), Some(last));
+    Ok(())
+}
