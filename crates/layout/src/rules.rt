@@ -183,8 +183,8 @@ impl Records for &[Record] {
 // Checks the rules of all records in one pass: the first record that breaks one is named, with the first rule
 // that it breaks.
 pub fn check<R: Records>(records: &R, bounds: Bounds) -> Result<(), LoadFault>
-    ensures same { refusal result ≡ first_fault bounds.names bounds.strings bounds.depth (list records.now) }
-    ensures rules { MatchResult result (λ _. (i : ℕ) → i < length (list records.now) → Ruled bounds.names bounds.strings bounds.depth (list records.now) i) (λ f. FirstBreak bounds.names bounds.strings bounds.depth (list records.now) f) }
+    ensures same { refusal result ≡ first_fault bounds.names bounds.strings bounds.depth (R.list records.now) }
+    ensures rules { MatchResult result (λ _. (i : ℕ) → i < length (R.list records.now) → Ruled bounds.names bounds.strings bounds.depth (R.list records.now) i) (λ f. FirstBreak bounds.names bounds.strings bounds.depth (R.list records.now) f) }
 {
     let count = records.count();
     let mut track = Track {

@@ -22,9 +22,9 @@ pub loop-i-preserved : goal.loop-i-preserved
 loop-i-preserved g c =
     let b = c.args.bounds in
     let rs = g.R.Records.list c.args.records.now in (
-      subst (λ (t : Track). t.level ≤ b.depth) (sym c.along-track.ensures) (level_low b.names b.strings b.depth c.count-count.result c.loop-i.i c.loop-i.track rs c.at-record.result (omega (arith, c.count-count.ensures)) c.at-record.ensures (sym c.in-default.ensures)),
+      subst (λ (t : Track). t.level ≤ b.depth) (sym c.along-track.ensures) (level_low b.names b.strings b.depth c.count-count.result c.loop-i.i c.loop-i.track rs c.at-record.result (omega (arith, c.count-count.ensures)) c.at-record.ensures (sym c.in_default.ensures)),
       ap (λ (t : Track). scan b.names b.strings b.depth c.count-count.result (c.loop-i.i + 1) t (drop (c.loop-i.i + 1) rs)) c.along-track.ensures
-          ∙ sym (scan_more b.names b.strings b.depth c.count-count.result c.loop-i.i c.loop-i.track rs c.at-record.result (omega (arith, c.count-count.ensures)) c.at-record.ensures (sym c.in-default.ensures))
+          ∙ sym (scan_more b.names b.strings b.depth c.count-count.result c.loop-i.i c.loop-i.track rs c.at-record.result (omega (arith, c.count-count.ensures)) c.at-record.ensures (sym c.in_default.ensures))
           ∙ c.loop-i.invariant.1,
     )
 

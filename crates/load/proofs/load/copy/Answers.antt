@@ -22,8 +22,8 @@ returns c =
       later = subst (λ (k : ℕ). drop k c.loop-i.table ≡ drop k c.args.table.now) i c.loop-i.invariant.1;
     }
 
-pub offset-bounds-table-i : goal.offset-bounds-table-i
-offset-bounds-table-i c = omega (arith, records_length c.args.packed.now.count c.args.packed.now.bytes.now, c.count-count.ensures, c.args.packed.now.fits)
+pub offset_bounds-table-i : goal.offset_bounds-table-i
+offset_bounds-table-i c = omega (arith, records_length c.args.packed.now.count c.args.packed.now.bytes.now, c.count-count.ensures, c.args.packed.now.fits)
 
 pub bounds-table-i : goal.bounds-table-i
 bounds-table-i c = omega (arith, records_length c.args.packed.now.count c.args.packed.now.bytes.now, c.count-count.ensures, c.loop-i.auto.table)

@@ -2,18 +2,18 @@ use Rattle.std.proofs.lemmas.Result.{err_from_is_err_and}
 use Rattle.whole.proofs.Wholes.{read, unread, unloaded}
 use Rattle.whole.proofs.read.from_file.Goals as goal
 
-pub returns-in-err-loaded : goal.returns-in-err-loaded
-returns-in-err-loaded g c =
-    let p = err_from_is_err_and c.from-residual.result c.from-residual.ensures.1 in
-    rw (p.1, p.2) (unloaded c.args.file.now c.args.table.now c.load.new.table c.in-err-loaded.field-0.0 c.in-err-loaded.ensures)
+pub returns-in_err-loaded : goal.returns-in_err-loaded
+returns-in_err-loaded g c =
+    let p = err_from_is_err_and c.from_residual.result c.from_residual.ensures.1 in
+    rw (p.1, p.2) (unloaded c.args.file.now c.args.table.now c.load.new.table c.in_err-loaded.field-0.0 c.in_err-loaded.ensures)
 
-pub returns-in-err-value : goal.returns-in-err-value
-returns-in-err-value g c =
-    let p = err_from_is_err_and c.from-residual-in-err-value.result c.from-residual-in-err-value.ensures.1 in
-    rw (p.1, p.2) (unread c.args.file.now c.args.table.now c.load.new.table c.in-ok-loaded.loaded.count c.in-ok-loaded.loaded.names.now c.in-ok-loaded.loaded.strings.now c.in-ok-loaded.ensures
-    c.in-err-value.field-0.0 c.in-err-value.ensures)
+pub returns-in_err-value : goal.returns-in_err-value
+returns-in_err-value g c =
+    let p = err_from_is_err_and c.from_residual-in_err-value.result c.from_residual-in_err-value.ensures.1 in
+    rw (p.1, p.2) (unread c.args.file.now c.args.table.now c.load.new.table c.in_ok-loaded.loaded.count c.in_ok-loaded.loaded.names.now c.in_ok-loaded.loaded.strings.now c.in_ok-loaded.ensures
+    c.in_err-value.field-0.0 c.in_err-value.ensures)
 
 pub returns : goal.returns
 returns g c =
-    read c.args.file.now c.args.table.now c.load.new.table c.in-ok-loaded.loaded.count c.in-ok-loaded.loaded.names.now c.in-ok-loaded.loaded.strings.now c.in-ok-loaded.ensures
-    c.in-ok-value.value c.in-ok-value.ensures
+    read c.args.file.now c.args.table.now c.load.new.table c.in_ok-loaded.loaded.count c.in_ok-loaded.loaded.names.now c.in_ok-loaded.loaded.strings.now c.in_ok-loaded.ensures
+    c.in_ok-value.value c.in_ok-value.ensures

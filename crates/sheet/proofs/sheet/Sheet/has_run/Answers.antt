@@ -13,4 +13,4 @@ pub returns-then-body-holds : goal.returns-then-body-holds
 returns-then-body-holds c = run_found (held c.args.self.now) c.args.from c.args.to c.args.group c.if-from-to.false c.if-to-le1.false (sym c.if-body-holds.ensures)
 
 pub returns : goal.returns
-returns c = c.some-body-holds.ensures ∙ run_some (held c.args.self.now) c.args.from c.args.to c.if-from-to.false c.if-to-le1.false
+returns c = c.some_body_holds.ensures ∙ run_some (held c.args.self.now) c.args.from c.args.to c.if-from-to.false c.if-to-le1.false

@@ -11,18 +11,18 @@ returns-then-rest c = record {
   passes = stays (held c.args.sheet.now) c.args.self.now.at c.rest-rest.result c.rest-rest.ensures.is c.if-rest.true;
 }
 
-pub returns-in-err-passed : goal.returns-in-err-passed
-returns-in-err-passed c =
+pub returns-in_err-passed : goal.returns-in_err-passed
+returns-in_err-passed c =
     let h = held c.args.sheet.now in
     let i = c.rest-rest.result.from in
-    absurd (there_none h i (omega (arith, c.if-rest.false, c.rest-rest.ensures.within)) (tree_of h i (token h i)) c.in-err-passed.ensures)
+    absurd (there_none h i (omega (arith, c.if-rest.false, c.rest-rest.ensures.within)) (tree_of h i (token h i)) c.in_err-passed.ensures)
 
 pub returns : goal.returns
 returns c =
     let h = held c.args.sheet.now in
     let i = c.rest-rest.result.from in
     record {
-      shows = peeks h c.args.self.now.at c.rest-rest.result c.rest-rest.ensures.is c.if-rest.false (seen c.in-ok-passed.passed)
-          (there_some h i (omega (arith, c.if-rest.false, c.rest-rest.ensures.within)) (tree_of h i (token h i)) (seen c.in-ok-passed.passed) c.in-ok-passed.ensures);
+      shows = peeks h c.args.self.now.at c.rest-rest.result c.rest-rest.ensures.is c.if-rest.false (seen c.in_ok-passed.passed)
+          (there_some h i (omega (arith, c.if-rest.false, c.rest-rest.ensures.within)) (tree_of h i (token h i)) (seen c.in_ok-passed.passed) c.in_ok-passed.ensures);
       passes = c.past-self.ensures ∙ passes h c.args.self.now.at c.rest-rest.result c.rest-rest.ensures.is c.if-rest.false;
     }

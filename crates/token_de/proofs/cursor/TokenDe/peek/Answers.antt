@@ -8,15 +8,15 @@ use Rattle.token_de.proofs.cursor.TokenDe.peek.Goals as goal
 pub returns-then-rest : goal.returns-then-rest
 returns-then-rest c = peeks_none (held c.args.sheet.now) c.args.self.now.at c.rest-rest.result c.rest-rest.ensures.is c.if-rest.true
 
-pub returns-in-err-tree : goal.returns-in-err-tree
-returns-in-err-tree c =
+pub returns-in_err-tree : goal.returns-in_err-tree
+returns-in_err-tree c =
     let h = held c.args.sheet.now in
     let i = c.rest-rest.result.from in
-    absurd (there_none h i (omega (arith, c.if-rest.false, c.rest-rest.ensures.within)) (tree_of h i (token h i)) c.in-err-tree.ensures)
+    absurd (there_none h i (omega (arith, c.if-rest.false, c.rest-rest.ensures.within)) (tree_of h i (token h i)) c.in_err-tree.ensures)
 
 pub returns : goal.returns
 returns c =
     let h = held c.args.sheet.now in
     let i = c.rest-rest.result.from in
-    peeks h c.args.self.now.at c.rest-rest.result c.rest-rest.ensures.is c.if-rest.false (seen c.in-ok-tree.tree)
-    (there_some h i (omega (arith, c.if-rest.false, c.rest-rest.ensures.within)) (tree_of h i (token h i)) (seen c.in-ok-tree.tree) c.in-ok-tree.ensures)
+    peeks h c.args.self.now.at c.rest-rest.result c.rest-rest.ensures.is c.if-rest.false (seen c.in_ok-tree.tree)
+    (there_some h i (omega (arith, c.if-rest.false, c.rest-rest.ensures.within)) (tree_of h i (token h i)) (seen c.in_ok-tree.tree) c.in_ok-tree.ensures)

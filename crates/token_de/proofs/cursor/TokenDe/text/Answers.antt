@@ -15,13 +15,13 @@ returns-then-rest c =
     let e : Err (Ended wanted.String c.unwrap-or.result) ≡ text_read h s = ap (λ (i : ℕ). Err (Ended wanted.String i)) c.unwrap-or.ensures ∙ ends h s c.rest-rest.result c.rest-rest.ensures.is c.if-rest.true in
     record { answer = e; passes = text_stays h s (Ended wanted.String c.unwrap-or.result) e }
 
-pub returns-in-default : goal.returns-in-default
-returns-in-default c =
+pub returns-in_default : goal.returns-in_default
+returns-in_default c =
     let h = held c.args.sheet.now in
     let s = c.args.self.now.at in
     let i = c.rest-rest.result.from in
     let e : Err (Wrong wanted.String i) ≡ text_read h s = reads h s c.rest-rest.result c.rest-rest.ensures.is c.if-rest.false None
-    (c.in-default.ensures ∙ there h i (omega (arith, c.if-rest.false, c.rest-rest.ensures.within)) (text_of h (token h i))) in
+    (c.in_default.ensures ∙ there h i (omega (arith, c.if-rest.false, c.rest-rest.ensures.within)) (text_of h (token h i))) in
     record { answer = e; passes = text_stays h s (Wrong wanted.String i) e }
 
 pub returns : goal.returns

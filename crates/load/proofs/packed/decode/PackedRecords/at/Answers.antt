@@ -2,8 +2,8 @@ use Rattle.std.proofs.Common.{sym, ◌∙◌, arith}
 use Rattle.load.proofs.Files.{records_length, records_at}
 use Rattle.load.proofs.packed.decode.PackedRecords.at.Goals as goal
 
-pub overflow-mul-i : goal.overflow-mul-i
-overflow-mul-i c = omega (arith, records_length c.args.self.now.count c.args.self.now.bytes.now, c.requires, c.args.self.now.fits)
+pub overflow_mul-i : goal.overflow_mul-i
+overflow_mul-i c = omega (arith, records_length c.args.self.now.count c.args.self.now.bytes.now, c.requires, c.args.self.now.fits)
 
 pub record-at-requires : goal.record-at-requires
 record-at-requires c = omega (arith, records_length c.args.self.now.count c.args.self.now.bytes.now, c.requires, c.args.self.now.fits)
