@@ -18,8 +18,8 @@ pub loop-turn-preserved : goal.loop-turn-preserved
 unfolding caller_model
 loop-turn-preserved g c =
     comes_again (caller_model g) (held c.args.sheet.now) g.met.K.Seed.lawful g.met.V.Seed.lawful c.args.turns c.loop-turn.-turn
-    c.loop-turn.caller c.next-call-talk.new.caller _ (state_of c.loop-turn.talk) (state_of c.next-call-talk.result) _
-    (omega arith) c.next-call-talk.ensures.caller c.next-call-talk.ensures.list c.loop-turn.invariant
+    c.loop-turn.caller c.next_call-talk.new.caller _ (state_of c.loop-turn.talk) (state_of c.next_call-talk.result) _
+    (omega arith) c.next_call-talk.ensures.caller c.next_call-talk.ensures.list c.loop-turn.invariant
 
 pub returns : goal.returns
 unfolding caller_model

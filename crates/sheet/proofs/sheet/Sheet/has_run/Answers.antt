@@ -9,8 +9,8 @@ returns-then-from-to c = run_backward (held c.args.self.now) c.args.from c.args.
 pub returns-then-to-le1 : goal.returns-then-to-le1
 returns-then-to-le1 c = run_root (held c.args.self.now) c.args.from c.args.to c.if-from-to.false c.if-to-le1.true
 
-pub returns-then-body-holds : goal.returns-then-body-holds
-returns-then-body-holds c = run_found (held c.args.self.now) c.args.from c.args.to c.args.group c.if-from-to.false c.if-to-le1.false (sym c.if-body-holds.ensures)
+pub returns-then-body_holds : goal.returns-then-body_holds
+returns-then-body_holds c = run_found (held c.args.self.now) c.args.from c.args.to c.args.group c.if-from-to.false c.if-to-le1.false (sym c.if-body_holds.ensures)
 
 pub returns : goal.returns
 returns c = c.some_body_holds.ensures ∙ run_some (held c.args.self.now) c.args.from c.args.to c.if-from-to.false c.if-to-le1.false

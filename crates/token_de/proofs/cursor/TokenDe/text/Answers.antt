@@ -12,8 +12,8 @@ pub returns-then-rest : goal.returns-then-rest
 returns-then-rest c =
     let h = held c.args.sheet.now in
     let s = c.args.self.now.at in
-    let e : Err (Ended wanted.String c.unwrap-or.result) ≡ text_read h s = ap (λ (i : ℕ). Err (Ended wanted.String i)) c.unwrap-or.ensures ∙ ends h s c.rest-rest.result c.rest-rest.ensures.is c.if-rest.true in
-    record { answer = e; passes = text_stays h s (Ended wanted.String c.unwrap-or.result) e }
+    let e : Err (Ended wanted.String c.unwrap_or.result) ≡ text_read h s = ap (λ (i : ℕ). Err (Ended wanted.String i)) c.unwrap_or.ensures ∙ ends h s c.rest-rest.result c.rest-rest.ensures.is c.if-rest.true in
+    record { answer = e; passes = text_stays h s (Ended wanted.String c.unwrap_or.result) e }
 
 pub returns-in_default : goal.returns-in_default
 returns-in_default c =
