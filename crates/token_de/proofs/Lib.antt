@@ -1,4 +1,3 @@
 mod Cursors
 pub mod Trees
-pub mod Customs
 pub mod Words

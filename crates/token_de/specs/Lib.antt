@@ -4,3 +4,4 @@ pub mod Meaning
 pub mod Steps
 pub mod Custom
 pub mod Reading
+pub mod Customs

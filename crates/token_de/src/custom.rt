@@ -1,4 +1,5 @@
 ghost use Rattle.token_de.specs.Custom.{Whole};
+ghost use Rattle.token_de.specs.Customs.{whole_exact, answers_set};
 
 use crate::fault::Fault;
 use crate::seed::{Seed, Taken, Words};
@@ -25,4 +26,6 @@ impl<S: Seed> Seed for Custom<S> {
 
 impl<S: Seed> Words for Custom<S> {
     ghost word = { λ s. Whole (S.Seed.meaning s.seed) };
+
+    ghost exact = { λ s. whole_exact (S.Seed.lawful s.seed) (answers_set S.Value.row) };
 }

@@ -7,6 +7,14 @@ use Rattle.sheet.proofs.Runs.{run_part}
 use Rattle.token_de.specs.declared.seed.Taken.{Taken}
 use Rattle.token_de.specs.Meaning.{Answer, Meaning, Lawful, Exact}
 use Rattle.token_de.specs.Custom.{Whole}
+use base.Stored.{Coded-set}
+use denote.RattleType.{RattleType}
+use Rattle.token_de.specs.contracts.seed.Taken as taken
+use Rattle.token_de.specs.contracts.fault.Fault as fault
+
+-- what a seed answers is a set
+pub answers_set : (v : RattleType) → IsSet (Answer (Taken v.Denot))
+answers_set v = Coded-set (Rattle.std.specs.contracts.result.Result.the_row (taken.the_row v) fault.the_row).coded
 
 pub whole_exact : {V : Type 0} {m : Meaning V} → Lawful m → IsSet (Answer (Taken V)) → Exact m (Whole m)
 whole_exact {V} {m} law set = record {
