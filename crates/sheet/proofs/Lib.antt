@@ -1,3 +1,4 @@
+mod Clamped
 mod Made
 pub mod Lines
 pub mod Runs

@@ -34,6 +34,10 @@ at_root = record { group = 0; first = 0; place = 0; end = 1 }
 abbrev pub at_body : Body → Spot
 at_body b = record { group = b.parent; first = b.from; place = b.from; end = b.to }
 
+-- before the records from p up to e, as a run of its own
+abbrev pub at_rest : ℕ → ℕ → Spot
+at_rest p e = record { group = 0; first = p; place = p; end = e }
+
 abbrev pub past : Spot → ℕ → Spot
 past s q = record { group = s.group; first = s.first; place = q; end = s.end }
 

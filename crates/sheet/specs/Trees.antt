@@ -46,6 +46,10 @@ if_there h i x = cond (nat_lt i (length h.records)) (Some x) None
 abbrev pub shown : Option Tree → Option Seen
 shown r = option_map seen r
 
+abbrev pub pool_of : Parts → Pool → List ℕ
+pool_of h Names = h.names
+pool_of h Strings = h.strings
+
 -- A TEXT: a part of the names for an identifier, or of the strings for a string literal
 pub record Worded : Type 0 where
   pub pool : Pool

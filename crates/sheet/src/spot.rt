@@ -1,5 +1,5 @@
 ghost use Rattle.std.specs.Prelude.{◌≡◌, ◌+◌, ◌^◌, ◌<◌};
-ghost use Rattle.sheet.specs.Spots.{at_root, at_body, past, body_of};
+ghost use Rattle.sheet.specs.Spots.{at_root, at_body, at_rest, past, body_of};
 
 use crate::token::Group;
 
@@ -86,6 +86,25 @@ impl Spot {
             place: body.from,
             end: body.to,
         }
+    }
+
+    // Before the rest of a run, as a run of its own: nothing is passed.
+    pub fn over(rest: Rest) -> Spot
+        ensures { result ≡ at_rest rest.from rest.to }
+    {
+        Spot {
+            group: 0,
+            first: rest.from,
+            place: rest.from,
+            end: rest.to,
+        }
+    }
+
+    // The record before which it stands.
+    pub fn place(&self) -> usize
+        ensures { result ≡ self.now.place }
+    {
+        self.place
     }
 
     // At another place of the same run.

@@ -33,6 +33,20 @@ impl TokenDe {
         }
     }
 
+    // Where a spot is.
+    pub fn standing(at: Spot) -> TokenDe
+        ensures { result.at ≡ at }
+    {
+        TokenDe { at }
+    }
+
+    // Its spot.
+    pub fn spot(&self) -> Spot
+        ensures { result ≡ self.now.at }
+    {
+        self.at
+    }
+
     // The last token passed, if any.
     pub fn last(&self, sheet: &Sheet) -> Option<usize>
         ensures { result ≡ (rest (held sheet.now) self.now.at).last }

@@ -2,7 +2,7 @@ ghost use Rattle.std.specs.Prelude.{◌≡◌, ℕ, ◌+◌, ◌^◌, ◌<◌, �
 ghost use Rattle.layout.specs.Rules.{entry};
 ghost use Rattle.sheet.specs.Sheets.{held};
 ghost use Rattle.sheet.specs.Tokens.{token, bytes_of};
-ghost use Rattle.sheet.specs.Trees.{seen, tree_of, if_there, shown, text_of, text_shown};
+ghost use Rattle.sheet.specs.Trees.{seen, tree_of, if_there, shown, text_of, text_shown, pool_of};
 
 use super::Sheet;
 use crate::spot::Body;
@@ -18,6 +18,15 @@ fn cut(pool: &[u8], part: Part) -> &[u8]
     let start = part.start;
     let end = start + part.len;
     &pool[start..end]
+}
+
+// The bytes of a part of a pool, as far as the pool goes.
+fn clamped(pool: &[u8], part: Part) -> &[u8]
+    ensures { result.now ≡ bytes_of pool.now part }
+{
+    let start = part.start.min(pool.len());
+    let len = part.len.min(pool.len() - start);
+    cut(pool, Part { start, len })
 }
 
 impl<'a> Sheet<'a> {
@@ -90,6 +99,16 @@ impl<'a> Sheet<'a> {
             self.text_at(at)
         } else {
             None
+        }
+    }
+
+    // The bytes of a part of one of its pools, as far as the pool goes.
+    pub fn bytes(&self, pool: Pool, part: Part) -> &'a [u8]
+        ensures { result.now ≡ bytes_of (pool_of (held self.now) pool) part }
+    {
+        match pool {
+            Pool::Names => clamped(self.names, part),
+            Pool::Strings => clamped(self.strings, part),
         }
     }
 
