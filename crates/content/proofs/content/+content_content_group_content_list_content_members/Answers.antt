@@ -39,13 +39,13 @@ content-returns-in-String t c = one_is _ _ c.one-in-String.ensures ∙ sym (cont
 pub content-returns-in-Punct : goal.content-returns-in-Punct
 content-returns-in-Punct t c = c.from_punct.ensures ∙ sym (content_at c.args.depth (held c.args.sheet.now) c.args.rest.from c.args.rest.to c.args.rest.last c.requires.levels c.if-at-rest.false _ c.in-Punct.ensures)
 
-pub content-returns-in_err-value : goal.content-returns-in_err-value
-content-returns-in_err-value t c =
-    let p = err_from_is_err_and c.from_residual.result c.from_residual.ensures.1 in
-    rw (p.1, p.2) (sym (content_at c.args.depth (held c.args.sheet.now) c.args.rest.from c.args.rest.to c.args.rest.last c.requires.levels c.if-at-rest.false _ c.in-Literal.ensures ∙ ap literal_then (sym c.literal_value.ensures ∙ c.in_err-value.was)))
+pub content-returns-in_err-value-in-Literal : goal.content-returns-in_err-value-in-Literal
+content-returns-in_err-value-in-Literal t c =
+    let p = err_from_is_err_and c.from_residual-in_err-value.result c.from_residual-in_err-value.ensures.1 in
+    rw (p.1, p.2) (sym (content_at c.args.depth (held c.args.sheet.now) c.args.rest.from c.args.rest.to c.args.rest.last c.requires.levels c.if-at-rest.false _ c.in-Literal.ensures ∙ ap literal_then (sym c.literal_value.ensures ∙ c.in_err-value-in-Literal.was)))
 
-pub content-returns-in_ok-value : goal.content-returns-in_ok-value
-content-returns-in_ok-value t c = one_is _ _ c.one-in-Literal.ensures ∙ sym (content_at c.args.depth (held c.args.sheet.now) c.args.rest.from c.args.rest.to c.args.rest.last c.requires.levels c.if-at-rest.false _ c.in-Literal.ensures ∙ ap literal_then (sym c.literal_value.ensures ∙ c.in_ok-value.was))
+pub content-returns-in_ok-value-in-Literal : goal.content-returns-in_ok-value-in-Literal
+content-returns-in_ok-value-in-Literal t c = one_is _ _ c.one-in-Literal.ensures ∙ sym (content_at c.args.depth (held c.args.sheet.now) c.args.rest.from c.args.rest.to c.args.rest.last c.requires.levels c.if-at-rest.false _ c.in-Literal.ensures ∙ ap literal_then (sym c.literal_value.ensures ∙ c.in_ok-value-in-Literal.was))
 
 pub content-returns-in-Group : goal.content-returns-in-Group
 content-returns-in-Group t c = c.content_group.ensures ∙ sym (content_at c.args.depth (held c.args.sheet.now) c.args.rest.from c.args.rest.to c.args.rest.last c.requires.levels c.if-at-rest.false _ c.in-Group.ensures)
@@ -55,7 +55,7 @@ content_group-overflow_add-to t c = omega (arith, run_inside (held c.args.sheet.
 
 pub content_group-overflow_add-result : goal.content_group-overflow_add-result
 content_group-overflow_add-result t c =
-    let w = content_in c.args.depth (held c.args.sheet.now) c.args.group.first (c.args.group.first + c.args.group.count) None c.in_ok-word.word (sym c.content.ensures ∙ c.in_ok-word.was) in
+    let w = content_in c.args.depth (held c.args.sheet.now) c.args.group.first (c.args.group.first + c.args.group.count) None c.in_ok-word-in-Invisible-2.word (sym c.content.ensures ∙ c.in_ok-word-in-Invisible-2.was) in
     omega (arith, w, run_inside (held c.args.sheet.now) c.args.group.first (c.args.group.first + c.args.group.count) (sheet_kept c.args.sheet.now) c.requires.run, few (held c.args.sheet.now) (sheet_kept c.args.sheet.now))
 
 pub content_list-loop-place-init : goal.content_list-loop-place-init

@@ -17,12 +17,12 @@ loop-turn-init g c = comes_start (caller_model g) (held c.args.sheet.now) g.met.
 pub loop-turn-preserved : goal.loop-turn-preserved
 unfolding caller_model
 loop-turn-preserved g c =
-    comes_again (caller_model g) (held c.args.sheet.now) g.met.K.Seed.lawful g.met.V.Seed.lawful c.args.turns c.loop-turn.-turn
+    comes_again (caller_model g) (held c.args.sheet.now) g.met.K.Seed.lawful g.met.V.Seed.lawful c.args.turns c.loop-turn._turn
     c.loop-turn.caller c.next_call-talk.new.caller _ (state_of c.loop-turn.talk) (state_of c.next_call-talk.result) _
     (omega arith) c.next_call-talk.ensures.caller c.next_call-talk.ensures.list c.loop-turn.invariant
 
 pub returns : goal.returns
 unfolding caller_model
 returns g c =
-    let e = comes_end (caller_model g) (held c.args.sheet.now) g.met.K.Seed.lawful g.met.V.Seed.lawful c.args.turns c.loop-turn.-turn c.loop-turn.caller _ (state_of c.loop-turn.talk) _ (omega arith) c.loop-turn.invariant in
+    let e = comes_end (caller_model g) (held c.args.sheet.now) g.met.K.Seed.lawful g.met.V.Seed.lawful c.args.turns c.loop-turn._turn c.loop-turn.caller _ (state_of c.loop-turn.talk) _ (omega arith) c.loop-turn.invariant in
     talked (caller_model g) (held c.args.sheet.now) g.met.K.Seed.lawful g.met.V.Seed.lawful c.args.turns c.args.caller.now (record { turn = key; at = c.args.turn.at }) c.loop-turn.caller (state_of c.loop-turn.talk) e.0 e.1
