@@ -41,7 +41,7 @@ content-returns-in-Punct t c = c.from_punct.ensures ∙ sym (content_at c.args.d
 
 pub content-returns-in_err-value-in-Literal : goal.content-returns-in_err-value-in-Literal
 content-returns-in_err-value-in-Literal t c =
-    let p = err_from_is_err_and c.from_residual-in_err-value.result c.from_residual-in_err-value.ensures.1 in
+    let p = err_from_is_err_and c.from_residual.result c.from_residual.ensures.1 in
     rw (p.1, p.2) (sym (content_at c.args.depth (held c.args.sheet.now) c.args.rest.from c.args.rest.to c.args.rest.last c.requires.levels c.if-at-rest.false _ c.in-Literal.ensures ∙ ap literal_then (sym c.literal_value.ensures ∙ c.in_err-value-in-Literal.was)))
 
 pub content-returns-in_ok-value-in-Literal : goal.content-returns-in_ok-value-in-Literal
