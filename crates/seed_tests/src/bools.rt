@@ -2,6 +2,7 @@
 use crate::build::*;
 use crate::reads::*;
 use scalar::bool::Bool;
+use std::test::Fail;
 
 #[test]
 fn true_and_false_are_taken(rt: HostRuntime) -> Result<(), Fail> {

@@ -8,6 +8,7 @@ use layout::record::Record;
 use scalar::text::TextPart;
 use sheet::text::Pool;
 use std::process::Abort;
+use std::test::Fail;
 
 const SIGN: u64 = 0x8000_0000_0000_0000;
 
@@ -43,7 +44,7 @@ fn check_neither(rt: &impl Abort, records: &[Record], want: Refusal) -> Result<(
 fn one_token_is_content(rt: HostRuntime) -> Result<(), Fail> {
     check_both(&rt, &one(ident(0, 4)), Datum::Bool(true), 1)?;
     check_both(&rt, &one(ident(4, 5)), Datum::Bool(false), 1)?;
-    check_both(&rt, &one(ident(9, 6)), name_at(9, 6), 1).note("r#true")?;
+    check_both(&rt, &one(ident(9, 6)), name_at(9, 6), 1)?;
     check_both(&rt, &one(ident(15, 4)), name_at(15, 4), 1)?;
     check_both(&rt, &one(ident(0, 0)), name_at(0, 0), 1)?;
     check_both(&rt, &one(string(0, 4)), string_at(0, 4), 1)?;

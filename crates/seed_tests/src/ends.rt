@@ -11,6 +11,7 @@ use scalar::unit::EmptyParens;
 use scalar::unsigned::Unsigned;
 use sheet::sheet::Sheet;
 use std::process::Abort;
+use std::test::Fail;
 use token_de::cursor::TokenDe;
 use token_de::custom::Custom;
 use token_de::seed::Seed;

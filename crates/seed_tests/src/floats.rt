@@ -2,6 +2,7 @@
 use crate::build::*;
 use crate::reads::*;
 use scalar::float::Float;
+use std::test::Fail;
 
 const INFINITY: u64 = 0x7ff0_0000_0000_0000;
 
@@ -17,9 +18,9 @@ fn numbers_are_taken_by_their_bits(rt: HostRuntime) -> Result<(), Fail> {
         (float(INFINITY), INFINITY),
     ];
     for (token, bits) in cases {
-        check_taken(&rt, &Float, &one(token), bits, 1).note(bits)?;
-        check_taken(&rt, &Float, &alone(token), bits, 1).note(bits)?;
-        check_taken(&rt, &Float, &minus(token), bits | SIGN, 2).note(bits)?;
+        check_taken(&rt, &Float, &one(token), bits, 1)?;
+        check_taken(&rt, &Float, &alone(token), bits, 1)?;
+        check_taken(&rt, &Float, &minus(token), bits | SIGN, 2)?;
     }
     Ok(())
 }

@@ -12,6 +12,7 @@ use sheet::sheet::Sheet;
 use sheet::spot::Body;
 use sheet::tree::Tree;
 use std::process::Abort;
+use std::test::Fail;
 use token_de::fault::Fault;
 
 // The identifier of one letter of the names.

@@ -62,7 +62,7 @@ pub fn check_none<S: Words>(
     detail: u8,
 ) -> Result<(), Fail> {
     for token in tokens {
-        check_refused(rt, seed, &one(*token), (10, 1, detail)).note(format_args!("{token:?}"))?;
+        check_refused(rt, seed, &one(*token), (10, 1, detail))?;
     }
     Ok(())
 }
@@ -75,7 +75,7 @@ pub fn check_none_behind_minus<S: Words>(
     detail: u8,
 ) -> Result<(), Fail> {
     for token in tokens {
-        check_refused(rt, seed, &minus(*token), (10, 1, detail)).note(format_args!("- {token:?}"))?;
+        check_refused(rt, seed, &minus(*token), (10, 1, detail))?;
     }
     Ok(())
 }
@@ -94,7 +94,7 @@ where
     let sheet = sheet_of(records);
     let mut cursor = start(rt, &sheet, records)?;
     let value = cursor.read(&sheet, seed)?;
-    assert_eq!(rt; value, want);
-    assert_eq!(rt; cursor.last(&sheet), Some(last));
+    assert_eq!(rt; value, want, "of {records:?}");
+    assert_eq!(rt; cursor.last(&sheet), Some(last), "in {records:?}");
     Ok(())
 }

@@ -3,6 +3,7 @@ use crate::build::*;
 use crate::reads::*;
 use scalar::text::{Identifier, Str, TextPart};
 use sheet::text::Pool;
+use std::test::Fail;
 
 // A part of each pool, and a text without bytes at the end of it; NAMES has 19 bytes, STRINGS has 9.
 #[test]
@@ -17,9 +18,9 @@ fn names_and_strings_are_taken_by_their_place(rt: HostRuntime) -> Result<(), Fai
             pool: Pool::Strings,
             ..name
         };
-        check_taken(&rt, &Identifier, &one(ident(start, len)), name, 1).note(start)?;
-        check_taken(&rt, &Str, &one(ident(start, len)), name, 1).note(start)?;
-        check_taken(&rt, &Str, &one(string(start, len)), text, 1).note(start)?;
+        check_taken(&rt, &Identifier, &one(ident(start, len)), name, 1)?;
+        check_taken(&rt, &Str, &one(ident(start, len)), name, 1)?;
+        check_taken(&rt, &Str, &one(string(start, len)), text, 1)?;
         check_none(&rt, &Identifier, &[string(start, len)], 7)?;
     }
     let others = [
