@@ -3,7 +3,7 @@ use std::alloc::{AllocError, AllocFailed};
 use std::{fmt, io};
 
 // Why the program ends with status 1.
-#[derive(Drop)]
+#[derive(Debug, Drop)]
 pub enum Failure {
     // the arguments are not one path
     Usage,

@@ -15,6 +15,7 @@ use load::load::{Loaded, load};
 use sheet::sheet::Sheet;
 use std::fs::File;
 use std::io::Read;
+use std::process::ExitCode;
 use std::{env, io};
 
 // What a place of the record table holds before a load.
@@ -103,12 +104,13 @@ fn run(rt: &HostRuntime) -> Result<(), Failure> {
     )
 }
 
-fn main(rt: HostRuntime) -> Result<(), Failure> {
+// A failure is told on standard error, and ends the program with status 1.
+fn main(rt: HostRuntime) -> Result<ExitCode, Failure> {
     match run(&rt) {
-        Ok(()) => Ok(()),
+        Ok(()) => Ok(ExitCode::SUCCESS),
         Err(failure) => {
             eprintln!(rt; "{failure}")?;
-            Err(failure)
+            Ok(ExitCode::FAILURE)
         }
     }
 }

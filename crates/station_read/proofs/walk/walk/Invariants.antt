@@ -3,4 +3,4 @@ use Rattle.station_read.proofs.walk.walk.Given as goal
 
 -- A turn passes at most one record.
 abbrev pub invariant-loop-turn : goal.invariant-loop-turn
-invariant-loop-turn l = l.walked ≤ l.-turn
+invariant-loop-turn l = l.walked ≤ l._turn
