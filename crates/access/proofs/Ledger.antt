@@ -1,8 +1,7 @@
 -- What one call of a member list does, and from it the law over runs. Assumes nothing.
 use Rattle.std.proofs.Common.{◌≡◌, ℕ, ◌+◌, ◌<◌, ◌≤◌, Bool, true, false, cond, ◌&&◌, eqb, ltb, leb, ◌⊎◌, List, [], ◌∷◌, length, Ok, Err, sym, refl, ap, ◌∙◌, subst, inl, inr, ⊎_elim, arith}
-use Rattle.std.proofs.lemmas.Bool.{leb-true, ltb-true, ltb-false, eqb-true, eqb-false, le-leb, lt-ltb, and_parts, and_from, cond-true, cond-false, and_left, and_right, lt-leb, le-ltb, cases_lt, or_right}
-use Rattle.std.proofs.lemmas.Bool.Decides.{nat_tests}
-use Rattle.layout.specs.Rules.{Parts, limits, entry, group, Kept}
+use Rattle.std.proofs.lemmas.Bool.{leb-true, ltb-true, ltb-false, eqb-true, le-leb, lt-ltb, and_parts, and_from, and_left, and_right, lt-leb, le-ltb, cases_lt, or_right}
+use Rattle.layout.specs.Rules.{Parts, limits, entry, Kept}
 use Rattle.layout.proofs.Scans.{rules_kept}
 use Rattle.sheet.specs.declared.spot.Spot.{Spot}
 use Rattle.sheet.specs.declared.spot.Rest.{Rest}
@@ -10,18 +9,18 @@ use Rattle.sheet.specs.declared.token.Group.{Group}
 use Rattle.sheet.specs.declared.token.Punct.{Punct}
 use Rattle.sheet.specs.declared.token.Token.{Token}
 use Rattle.sheet.specs.declared.token.Token.TheVariants as tokens
-use Rattle.sheet.specs.Tokens.{token, token_of}
-use Rattle.sheet.specs.Spots.{holds, some_holds, is_run, stands, Run, rest, past, last_passed, at_root, at_body, body_of, Rested}
+use Rattle.sheet.specs.Tokens.{token}
+use Rattle.sheet.specs.Spots.{holds, is_run, stands, past, last_passed, at_root, Rested}
 use Rattle.sheet.proofs.Lines.{group_line}
-use Rattle.sheet.proofs.Runs.{one_holds, run_is, run_part, rest_full, full}
+use Rattle.sheet.proofs.Runs.{one_holds, rest_full, full}
 use Rattle.token_de.specs.declared.seed.Taken.{Taken}
 use Rattle.token_de.specs.declared.fault.Fault.{Fault}
 use Rattle.token_de.specs.declared.fault.Fault.TheVariants.{Leftover}
-use Rattle.token_de.specs.Meaning.{Answer, Meaning, Lawful}
+use Rattle.token_de.specs.Meaning.{Answer, Lawful}
 use Rattle.access.specs.Plain.{equals_mark, comma, is_mark, marked, Turn, key, value, over, Said, none, accepted, refused, Step, step, key_taken, key_read, value_taken, value_read, finished}
 use Rattle.access.specs.Nested.{InTree}
 use Rattle.access.proofs.Nested.{trees_apart, in_body}
-use Rattle.access.specs.Calls.{Erased, State, Event, key_call, value_call, finish_call, lands, after, Answers, Calls, finally, number, trees, answer_of, taken, took, bit, takers, Follows, Marks, Marked, Accounted, Begins, ListLaw}
+use Rattle.access.specs.Calls.{Erased, State, Event, key_call, value_call, finish_call, after, Answers, Calls, finally, trees, answer_of, taken, took, bit, Follows, Marks, Accounted, Begins, ListLaw}
 
 -- the list stands in its run
 abbrev On : Parts → Spot → Type 0

@@ -1,8 +1,8 @@
 -- The calls of a talk are those of the plain list. Assumes nothing.
-use Rattle.std.proofs.Common.{◌≡◌, ℕ, zero, suc, ◌+◌, ◌-◌, ◌<◌, ◌≤◌, Bool, true, false, cond, eqb, ltb, List, [], ◌∷◌, ◌++◌, Ok, Err, Option, sym, refl, ap, ◌∙◌, subst, arith}
-use Rattle.layout.specs.Rules.{Parts, limits, Kept}
+use Rattle.std.proofs.Common.{◌≡◌, ℕ, zero, suc, ◌+◌, ◌-◌, ◌<◌, ◌≤◌, Bool, true, false, cond, eqb, ltb, List, ◌++◌, Ok, Err, sym, refl, ap, ◌∙◌, subst, arith}
+use Rattle.layout.specs.Rules.{Parts}
 use Rattle.sheet.specs.declared.spot.Spot.{Spot}
-use Rattle.sheet.specs.Spots.{Run, rest, past}
+use Rattle.sheet.specs.Spots.{rest, past}
 use Rattle.token_de.specs.declared.seed.Taken.{Taken}
 use Rattle.token_de.specs.declared.fault.Fault.{Fault}
 use Rattle.token_de.specs.declared.fault.Fault.TheVariants.{NoEquals, NoSeparator}
@@ -11,9 +11,9 @@ use Rattle.access.specs.declared.drive.KeyMove.{KeyMove}
 use Rattle.access.specs.declared.drive.KeyMove.TheVariants as at_key
 use Rattle.access.specs.declared.drive.ValueMove.{ValueMove}
 use Rattle.access.specs.declared.drive.ValueMove.TheVariants as at_value
-use Rattle.access.specs.Plain.{equals_mark, comma, marked, Turn, key, value, over, Said, none, accepted, refused, Step, step, key_taken, key_read, value_taken, value_read, finished, named}
-use Rattle.access.specs.Calls.{Erased, State, Event, key_call, value_call, finish_call, lands, after, Answers, Calls, finally, Begins, Accounted}
-use Rattle.access.specs.Talks.{forget, erased, said_only, lands_at, Model, After, key_after, value_after, turn_after, talk, Talked}
+use Rattle.access.specs.Plain.{equals_mark, comma, marked, Turn, key, value, over, none, accepted, refused, Step, step, key_taken, key_read, value_taken, value_read}
+use Rattle.access.specs.Calls.{State, Event, lands, Calls}
+use Rattle.access.specs.Talks.{forget, erased, said_only, Model, After, key_after, value_after, turn_after, talk, Talked}
 use Rattle.access.proofs.Ledger.{list_law}
 
 forget_ok : {V : Type 0} (r : Answer (Taken V)) (t : Taken (Unit {0})) → forget r ≡ Ok t → (u : Taken V) × (r ≡ Ok u) × (u.count ≡ t.count)

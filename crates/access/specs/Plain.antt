@@ -1,6 +1,6 @@
 -- The member list as a plain list: its turn, the last token passed and the rest of its run, and what each call does to it.
 -- Assumes nothing.
-use Rattle.std.specs.Prelude.{◌≡◌, ℕ, zero, suc, ◌+◌, ◌-◌, ◌<◌, ◌≤◌, Bool, true, false, cond, ◌&&◌, length, Ok, Err, Result, ◌==◌, nat_lt}
+use Rattle.std.specs.Prelude.{ℕ, ◌+◌, Bool, false, cond, ◌&&◌, length, Ok, Err, Result, ◌==◌, nat_lt}
 use Rattle.layout.specs.Rules.{Parts}
 use Rattle.sheet.specs.declared.spot.Spot.{Spot}
 use Rattle.sheet.specs.declared.token.Punct.{Punct}

@@ -4,7 +4,6 @@ use Rattle.layout.specs.Rules.{Parts, limits, Kept}
 use Rattle.sheet.specs.declared.spot.Spot.{Spot}
 use Rattle.token_de.specs.declared.seed.Taken.{Taken}
 use Rattle.token_de.specs.Meaning.{Answer, Meaning}
-use Rattle.access.specs.declared.map_access.KeyTurn.{KeyTurn}
 use Rattle.access.specs.declared.drive.KeyMove.{KeyMove}
 use Rattle.access.specs.declared.drive.KeyMove.TheVariants as at_key
 use Rattle.access.specs.declared.drive.ValueMove.{ValueMove}

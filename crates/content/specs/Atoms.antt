@@ -15,7 +15,7 @@ use Rattle.sheet.specs.declared.token.Literal.{Literal}
 use Rattle.sheet.specs.declared.token.Literal.TheVariants as literals
 use Rattle.sheet.specs.declared.token.Token.{Token}
 use Rattle.sheet.specs.declared.token.Token.TheVariants as tokens
-use Rattle.sheet.specs.Tokens.{token, bytes_of}
+use Rattle.sheet.specs.Tokens.{bytes_of}
 use Rattle.token_de.specs.Steps.{◌then◌}
 use Rattle.scalar.specs.Bools.{truth as spelled, spelling}
 use Rattle.scalar.specs.Spellings.{spells, spelt}

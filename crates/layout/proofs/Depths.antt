@@ -1,8 +1,8 @@
 -- The records of one depth are neighbours, and each record has one depth. Assumes nothing.
-use Rattle.std.proofs.Common.{◌≡◌, ℕ, zero, suc, ◌+◌, ◌<◌, ◌≤◌, List, refl, ap, ◌∙◌, subst, ⊎_elim, arith}
+use Rattle.std.proofs.Common.{◌≡◌, ℕ, zero, suc, ◌<◌, ◌≤◌, List, refl, ap, subst, ⊎_elim, arith}
 use Rattle.std.proofs.lemmas.Bool.{cases_lt}
 use Rattle.layout.specs.declared.record.Record.{Record}
-use Rattle.layout.specs.Rules.{entry, bodies_end, InBody, Placed, Depth, top, below}
+use Rattle.layout.specs.Rules.{bodies_end, InBody, Placed, Depth, top, below}
 use Rattle.layout.proofs.Bodies.{Before, end_of, ends_rise}
 
 module _ (rs : List Record) where

@@ -1,5 +1,5 @@
 -- One pass over the records finds the first that breaks a rule. Assumes nothing.
-use Rattle.std.proofs.Common.{◌≡◌, ℕ, zero, suc, ◌+◌, ◌<◌, ◌≤◌, Bool, true, false, cond, ◌&&◌, eqb, ltb, leb, ◌⊎◌, List, [], ◌∷◌, length, drop, Some, None, Option, sym, refl, ap, ◌∙◌, subst, inl, inr, ⊎_elim, add-one, arith, drop-cons, below_more}
+use Rattle.std.proofs.Common.{◌≡◌, ℕ, zero, suc, ◌+◌, ◌<◌, ◌≤◌, Bool, true, false, cond, ◌&&◌, eqb, ltb, leb, List, ◌∷◌, length, drop, Some, None, Option, sym, refl, ap, ◌∙◌, subst, ⊎_elim, add-one, arith, drop-cons, below_more}
 use Rattle.std.proofs.lemmas.List.{drop_all}
 use Rattle.std.proofs.lemmas.Bool.{leb-true, leb-false, ltb-true, eqb-true, eqb-false, le-leb, lt-ltb, eq-eqb, ne_eqb, and_parts, and_from, cond-true, cond-false, cond_both, cases_lt, cases_Bool, both_ways}
 use Rattle.layout.specs.declared.record.Record.{Record}
@@ -7,7 +7,7 @@ use Rattle.layout.specs.declared.limits.Limits.{Limits}
 use Rattle.layout.specs.declared.fault.LoadFault.{LoadFault}
 use Rattle.layout.specs.declared.fault.LoadFault.TheVariants.{Short, OutOfRange, WrongLength, OffLine, Misplaced, TooDeep, SmallTable}
 use Rattle.layout.specs.declared.rules.Track.{Track}
-use Rattle.layout.specs.Rules.{Parts, no_record, sized, entry, group, lined, bodies_end, Placed, Shallow, Ruled, Kept, FirstBreak}
+use Rattle.layout.specs.Rules.{Parts, no_record, sized, entry, group, lined, bodies_end, Placed, Ruled, Kept, FirstBreak}
 use Rattle.layout.specs.Scan.{start, fitting, level_at, along, fault_of, or_later, scan, first_fault, faultless, kept}
 use Rattle.layout.proofs.Bodies.{Before, ends_rise, body_found, inside_end}
 use Rattle.layout.proofs.Depths.{Only, Above, root, upper, Level, depth_here}

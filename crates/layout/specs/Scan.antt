@@ -1,5 +1,5 @@
 -- The first record that breaks a rule, found in one pass over the records. Assumes nothing.
-use Rattle.std.specs.Prelude.{ℕ, ◌+◌, ◌<◌, ◌≤◌, Bool, true, false, cond, ◌&&◌, ◌||◌, List, [], ◌∷◌, length, Some, None, Ok, Err, Option, Result, ◌==◌, nat_le, nat_lt}
+use Rattle.std.specs.Prelude.{ℕ, ◌+◌, Bool, true, false, cond, ◌&&◌, List, [], ◌∷◌, length, Some, None, Ok, Err, Option, Result, ◌==◌, nat_le, nat_lt}
 use Rattle.layout.specs.declared.record.Record.{Record}
 use Rattle.layout.specs.declared.limits.Limits.{Limits}
 use Rattle.layout.specs.declared.fault.LoadFault.{LoadFault}

@@ -1,14 +1,14 @@
 -- What a load answers, by what its checks found. Assumes nothing.
-use Rattle.std.proofs.Common.{◌≡◌, ℕ, ◌+◌, ◌-◌, ◌*◌, ◌<◌, ◌≤◌, Bool, true, false, cond, eqb, ltb, leb, List, ◌++◌, length, take, drop, Some, None, Option, sym, refl, ap, ◌∙◌, subst, arith}
+use Rattle.std.proofs.Common.{◌≡◌, ℕ, ◌+◌, ◌*◌, ◌<◌, ◌≤◌, Bool, true, false, cond, eqb, ltb, leb, List, ◌++◌, length, take, drop, Some, None, sym, refl, ap, ◌∙◌, subst, arith}
 use Rattle.std.proofs.lemmas.List.{take-append-drop}
-use Rattle.std.proofs.lemmas.Bool.{both_ways, cond-true, cond-false, le-ltb, lt-ltb, eq-eqb, ne_eqb, le-leb, lt-leb}
+use Rattle.std.proofs.lemmas.Bool.{cond-true, cond-false, le-ltb, lt-ltb, eq-eqb, ne_eqb, le-leb, lt-leb}
 use Rattle.layout.specs.declared.record.Record.{Record}
 use Rattle.layout.specs.declared.limits.Limits.{Limits}
 use Rattle.layout.specs.declared.fault.LoadFault.{LoadFault}
 use Rattle.layout.specs.declared.fault.LoadFault.TheVariants.{Short, OutOfRange, WrongLength, OffLine, Misplaced, TooDeep, SmallTable}
 use Rattle.layout.specs.Rules.{Parts, sized, Kept, Ruled, FirstBreak}
 use Rattle.layout.specs.Scan.{first_fault}
-use Rattle.layout.proofs.Scans.{Told, told_at, lawful_faultless}
+use Rattle.layout.proofs.Scans.{told_at, lawful_faultless}
 use Rattle.load.specs.Files.{N, L1, L2, after_head, records_of, Encodes, Takes, shown, Accepted, room_fault, length_fault, load_fault, InRange, RightLength, Roomy, Fails, Refused, Split}
 use Rattle.load.proofs.Files.{records_length, held_in, names_length, strings_length, encodes, encodes_only}
 

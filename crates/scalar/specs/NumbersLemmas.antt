@@ -4,9 +4,9 @@ use Rattle.std.proofs.Common.{sym, subst, ◌∙◌, inl, inr, ⊎_elim, arith}
 use Rattle.std.proofs.Math.Path.{ap}
 use mathlib.Core.HLevel.{×_prop, ×₃_prop}
 use Rattle.std.proofs.Math.Nat.{ℕ_set}
-use Rattle.std.proofs.lemmas.Bool.{cases_lt, lt-ltb, le-ltb, eqb-true, both_ways, cond-true, cond-false}
+use Rattle.std.proofs.lemmas.Bool.{cases_lt, lt-ltb, le-ltb, eqb-true, cond-true, cond-false}
 use Rattle.std.specs.Option.{unwrap_or, ok_or}
-use Rattle.layout.specs.Rules.{Parts, limits, Kept}
+use Rattle.layout.specs.Rules.{Parts}
 use Rattle.sheet.specs.declared.token.Token.{Token}
 use Rattle.sheet.specs.declared.token.Token.TheVariants as tokens
 use Rattle.sheet.specs.Tokens.{token}
@@ -16,7 +16,7 @@ use Rattle.token_de.specs.declared.fault.Fault.{Fault}
 use Rattle.token_de.specs.declared.fault.Fault.TheVariants.{Wrong, Ended}
 use Rattle.token_de.specs.declared.fault.Wanted.{Wanted}
 use Rattle.token_de.specs.Meaning.{Answer, Proper, Lawful, Exact}
-use Rattle.token_de.specs.Steps.{◌then◌, next}
+use Rattle.token_de.specs.Steps.{◌then◌}
 use Rattle.token_de.proofs.Trees.{token_set, next_is, next_none, run_inside, passed_inside}
 use Rattle.scalar.specs.Numbers.{minus, is_minus, on_some, behind, from_token, number_read, NumberWord}
 

@@ -1,5 +1,5 @@
 -- Words that name the token at one place. Assumes nothing.
-use Rattle.std.specs.Prelude.{◌≡◌, ℕ, Some, Option, refl}
+use Rattle.std.specs.Prelude.{◌≡◌, ℕ, Some, Option}
 use Rattle.std.proofs.Common.{sym, ap, ◌∙◌, arith}
 use Rattle.sheet.specs.declared.token.Integer.{Integer}
 use Rattle.sheet.specs.declared.token.Literal.{Literal}

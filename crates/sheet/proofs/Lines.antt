@@ -1,16 +1,14 @@
 -- What the rules tell of each token of a sheet. Assumes nothing.
-use Rattle.std.proofs.Common.{◌≡◌, ℕ, ◌+◌, ◌<◌, ◌≤◌, Bool, true, false, cond, ◌&&◌, eqb, leb, List, length, sym, refl, ap, ◌∙◌, subst, arith}
-use Rattle.std.proofs.lemmas.Bool.{cond-true, cond-false, eq-eqb, eqb-true, eqb-false, ne_eqb, leb-true}
+use Rattle.std.proofs.Common.{◌≡◌, ℕ, ◌+◌, ◌<◌, ◌≤◌, true, length, arith}
 use Rattle.std.proofs.lemmas.Bool.Decides.{nat_tests}
 use Rattle.layout.specs.declared.record.Record.{Record}
-use Rattle.layout.specs.Rules.{Parts, limits, entry, group, lined, literal, part_fits, is_punct, is_scalar, Kept}
+use Rattle.layout.specs.Rules.{Parts, limits, entry, group, lined}
 use Rattle.layout.specs.Scan.{kept}
 use Rattle.layout.proofs.Scans.{kept_rules}
 use Rattle.sheet.specs.declared.token.Part.{Part}
 use Rattle.sheet.specs.declared.token.Group.{Group}
-use Rattle.sheet.specs.declared.token.Token.{Token}
 use Rattle.sheet.specs.declared.token.Token.TheVariants as tokens
-use Rattle.sheet.specs.Tokens.{scalar_char, part_of, literal_of, delimiter_of, token_of, token}
+use Rattle.sheet.specs.Tokens.{scalar_char, token_of, token}
 
 module _ (l m : ℕ) (r : Record) (line : lined l m r ≡ true) where
   pub scalar_line : r.kind ≡ 2 → scalar_char r

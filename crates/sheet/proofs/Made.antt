@@ -1,6 +1,6 @@
 -- Which parts make a sheet. Assumes nothing.
 use Rattle.std.proofs.Common.{◌≡◌, ℕ, ◌≤◌, Bool, true, false, cond, ◌&&◌, leb, List, length, is_ok, Ok, Err, Result, sym, refl, ap, ◌∙◌, subst}
-use Rattle.std.proofs.lemmas.Bool.{and_parts, and_from, and_left, both_ways, cond-true, cond-false, leb-true, le-leb}
+use Rattle.std.proofs.lemmas.Bool.{and_parts, and_from, and_left, cond-true, leb-true, le-leb}
 use Rattle.layout.specs.declared.record.Record.{Record}
 use Rattle.layout.specs.declared.fault.LoadFault.{LoadFault}
 use Rattle.layout.specs.Rules.{Parts, limits, sized, Kept}

@@ -1,5 +1,5 @@
 -- What a sheet holds, and the sheet that is made of parts. Assumes nothing.
-use Rattle.std.specs.Prelude.{◌≡◌, ℕ, ◌≤◌, Bool, true, false, cond, ◌&&◌, List, [], ◌∷◌, length, take, nat_le}
+use Rattle.std.specs.Prelude.{◌≡◌, ℕ, ◌≤◌, Bool, cond, ◌&&◌, List, [], ◌∷◌, length, take, nat_le}
 use Rattle.layout.specs.declared.record.Record.{Record}
 use Rattle.layout.specs.Rules.{Parts, limits, Kept}
 use Rattle.layout.specs.Scan.{kept}

@@ -1,5 +1,5 @@
 -- What a record means. Assumes nothing.
-use Rattle.std.specs.Prelude.{◌≡◌, ℕ, Bool, true, false, cond, List, take, drop, Some, None, Option, ◌==◌}
+use Rattle.std.specs.Prelude.{◌≡◌, ℕ, true, cond, List, take, drop, Some, None, Option, ◌==◌}
 use Rattle.layout.specs.declared.record.Record.{Record}
 use Rattle.layout.specs.Rules.{Parts, entry, is_scalar}
 use Rattle.sheet.specs.declared.token.Delimiter.{Delimiter}

@@ -1,5 +1,5 @@
 -- A tree with its parts. Assumes nothing.
-use Rattle.std.specs.Prelude.{ℕ, ◌<◌, Bool, true, false, cond, List, length, Some, None, Option, nat_lt}
+use Rattle.std.specs.Prelude.{ℕ, cond, List, length, Some, None, Option, nat_lt}
 use Rattle.std.specs.Option.{option_map}
 use Rattle.layout.specs.Rules.{Parts}
 use Rattle.sheet.specs.declared.token.Delimiter.{Delimiter}
@@ -13,7 +13,7 @@ use Rattle.sheet.specs.declared.text.Text.{Text}
 use Rattle.sheet.specs.declared.tree.Tree.{Tree}
 use Rattle.sheet.specs.declared.tree.Tree.TheVariants as trees
 use Rattle.sheet.specs.declared.spot.Body.{Body}
-use Rattle.sheet.specs.Tokens.{token, bytes_of}
+use Rattle.sheet.specs.Tokens.{bytes_of}
 use Rattle.sheet.specs.Spots.{body_of}
 
 -- what a tree shows: a name's or a string's bytes, a punct, another literal, or a group's body

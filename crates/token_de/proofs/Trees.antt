@@ -1,10 +1,10 @@
 -- Seeds that take one tree. Assumes nothing.
-use Rattle.std.proofs.Common.{◌≡◌, ℕ, ◌+◌, ◌-◌, ◌<◌, ◌≤◌, Bool, true, false, cond, ltb, ◌⊎◌, length, Some, None, Ok, Err, Option, unwrap_or, sym, refl, ap, ◌∙◌, subst, inl, inr, ⊎_elim, arith}
+use Rattle.std.proofs.Common.{◌≡◌, ℕ, ◌+◌, ◌-◌, ◌<◌, ◌≤◌, Bool, true, false, cond, ◌⊎◌, length, Some, None, Ok, Err, Option, unwrap_or, sym, refl, ap, ◌∙◌, subst, inl, inr, ⊎_elim, arith}
 use mathlib.Core.Path.{PathP, to_path_p}
 use mathlib.Core.HLevel.{×_prop}
 use native.Mathlib.Nat.{ℕ_set}
 use base.Stored.{Coded-set}
-use Rattle.std.proofs.lemmas.Bool.{cases_lt, lt-ltb, le-ltb, cond-true, cond-false}
+use Rattle.std.proofs.lemmas.Bool.{cases_lt}
 use Rattle.std.proofs.lemmas.Bool.Decides.{nat_tests}
 use Rattle.std.specs.Option.{ok_or}
 use Rattle.layout.specs.Rules.{Parts, limits, Kept}
@@ -13,14 +13,13 @@ use Rattle.sheet.specs.contracts.token.Token.{the_row}
 use Rattle.sheet.specs.declared.token.Token.{Token}
 use Rattle.sheet.specs.Tokens.{token}
 use Rattle.sheet.specs.Spots.{Run, Passed}
-use Rattle.sheet.specs.Trees.{if_there}
 use Rattle.sheet.proofs.Runs.{run_fits, has_root}
 use Rattle.token_de.specs.declared.seed.Taken.{Taken}
 use Rattle.token_de.specs.declared.fault.Fault.{Fault}
 use Rattle.token_de.specs.declared.fault.Fault.TheVariants.{Wrong, Ended, Data}
 use Rattle.token_de.specs.declared.fault.DataFault.TheVariants.{Custom}
 use Rattle.token_de.specs.declared.fault.Wanted.{Wanted}
-use Rattle.token_de.specs.Meaning.{Answer, Meaning, Proper, Lawful, Grammar, Exact}
+use Rattle.token_de.specs.Meaning.{Answer, Proper, Lawful, Exact}
 use Rattle.token_de.specs.Steps.{◌then◌, next, tree, single, tested, One}
 
 pub token_set : IsSet Token

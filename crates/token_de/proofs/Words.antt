@@ -1,5 +1,5 @@
 -- Words that begin a run. Assumes nothing.
-use Rattle.std.proofs.Common.{◌≡◌, ℕ, ◌+◌, ◌-◌, ◌≤◌, None, Ok, Err, Option, sym, ap, ◌∙◌, subst, arith}
+use Rattle.std.proofs.Common.{◌≡◌, ℕ, ◌+◌, ◌-◌, ◌≤◌, None, Ok, Err, sym, ap, ◌∙◌, subst, arith}
 use native.Mathlib.Bridge.{le_prop}
 use Rattle.layout.specs.Rules.{Parts, limits, Kept}
 use Rattle.sheet.specs.declared.spot.Spot.{Spot}
@@ -7,7 +7,7 @@ use Rattle.sheet.specs.declared.spot.Rest.{Rest}
 use Rattle.sheet.specs.Spots.{Run, rest, past}
 use Rattle.token_de.specs.declared.seed.Taken.{Taken}
 use Rattle.token_de.specs.declared.fault.Fault.{Fault}
-use Rattle.token_de.specs.Meaning.{Answer, Meaning, Lawful, Grammar, Exact}
+use Rattle.token_de.specs.Meaning.{Meaning, Lawful, Grammar, Exact}
 use Rattle.token_de.specs.Reading.{Begins, Accepted, Refused}
 use Rattle.token_de.proofs.Trees.{joined}
 

@@ -1,5 +1,5 @@
 -- What a cursor shows and where it stands after a call. Assumes nothing.
-use Rattle.std.specs.Prelude.{ℕ, ◌+◌, Bool, true, false, cond, List, is_ok, Some, None, Ok, Err, Option, Result, nat_lt}
+use Rattle.std.specs.Prelude.{ℕ, ◌+◌, cond, is_ok, Some, None, Ok, Err, Option, Result, nat_lt}
 use Rattle.std.specs.Option.{option_map, unwrap_or, ok_or}
 use Rattle.layout.specs.Rules.{Parts}
 use Rattle.sheet.specs.declared.tree.Tree.{Tree}

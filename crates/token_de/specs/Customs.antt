@@ -1,6 +1,6 @@
 -- The words of customers' seeds. Assumes nothing.
 use Rattle.std.proofs.Common.{◌≡◌, ◌+◌, ◌-◌, None, Ok, ap, ◌∙◌, arith}
-use mathlib.Core.Logic.{∥∥₁_prop, ∥∥₁_elim}
+use mathlib.Core.Logic.{∥∥₁_prop}
 use mathlib.Core.HLevel.{×₃_prop}
 use native.Mathlib.Bridge.{le_prop}
 use Rattle.sheet.proofs.Runs.{run_part}

@@ -1,5 +1,5 @@
 -- Worked lines: what is read of small sheets. Assumes nothing.
-use Rattle.std.specs.Prelude.{◌≡◌, ℕ, List, [], ◌∷◌, length, ℤ, pos, negsuc, None, Ok, Err}
+use Rattle.std.specs.Prelude.{◌≡◌, ℕ, List, [], ◌∷◌, length, pos, negsuc, None, Ok, Err}
 use Rattle.layout.specs.declared.record.Record.{Record}
 use Rattle.layout.specs.Rules.{Parts}
 use Rattle.token_de.specs.declared.fault.Fault.TheVariants.{Wrong}

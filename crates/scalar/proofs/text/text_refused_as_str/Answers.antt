@@ -1,4 +1,4 @@
-use Rattle.std.proofs.Common.{◌≡◌, ℕ, ◌<◌, ◌≤◌, true, false, cond, ltb, length, Ok, Err, unwrap_or, sym, refl, ap, ◌∙◌, subst, ⊎_elim, arith}
+use Rattle.std.proofs.Common.{◌≡◌, ℕ, ◌<◌, ◌≤◌, ltb, length, Ok, Err, unwrap_or, sym, refl, ap, ◌∙◌, subst, ⊎_elim, arith}
 use Rattle.std.proofs.lemmas.Bool.{cases_lt, cases_Bool, lt-ltb, le-ltb, cond-true, cond-false}
 use Rattle.std.specs.Option.{ok_or}
 use Rattle.layout.specs.Rules.{Parts, limits, Kept}
@@ -9,17 +9,16 @@ use Rattle.sheet.specs.declared.token.Token.{Token}
 use Rattle.sheet.specs.declared.token.Token.TheVariants as tokens
 use Rattle.sheet.specs.Spots.{stands, rest}
 use Rattle.sheet.specs.Tokens.{token}
-use Rattle.sheet.specs.Trees.{Worded, text_of}
+use Rattle.sheet.specs.Trees.{text_of}
 use Rattle.sheet.proofs.Runs.{rest_full, rest_nothing}
 use Rattle.token_de.specs.declared.fault.Fault.TheVariants.{Wrong, Ended}
 use Rattle.token_de.specs.declared.fault.Wanted.TheVariants as wanted
 use Rattle.token_de.specs.declared.seed.Taken.{Taken}
 use Rattle.token_de.specs.Cursors.{text_read}
-use Rattle.token_de.specs.Meaning.{Answer}
 use Rattle.token_de.specs.Steps.{◌then◌}
 use Rattle.token_de.proofs.Trees.{tree_left, tree_none}
 use Rattle.scalar.specs.declared.text.TextPart.{TextPart}
-use Rattle.scalar.specs.Texts.{string_of, string_read, refusal, TextRefusedAsString}
+use Rattle.scalar.specs.Texts.{string_of, refusal, TextRefusedAsString}
 use Rattle.scalar.proofs.text.text_refused_as_str.Goals as goal
 
 -- the rest of a spot ends inside the sheet

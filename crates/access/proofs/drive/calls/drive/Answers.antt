@@ -1,7 +1,7 @@
-use Rattle.std.proofs.Common.{sym, arith}
+use Rattle.std.proofs.Common.{arith}
 use Rattle.sheet.specs.Sheets.{held}
 use Rattle.access.specs.Plain.{key}
-use Rattle.access.specs.Talks.{state_of, model, Model, talk}
+use Rattle.access.specs.Talks.{state_of, model, Model}
 use Rattle.access.proofs.Talks.{comes_start, comes_again, comes_end, talked}
 use Rattle.access.proofs.drive.calls.drive.Given as given
 use Rattle.access.proofs.drive.calls.drive.Goals as goal

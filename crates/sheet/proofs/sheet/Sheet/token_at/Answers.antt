@@ -1,4 +1,3 @@
-use Rattle.std.proofs.Common.{refl, ◌∙◌}
 use Rattle.sheet.specs.Sheets.{held}
 use Rattle.sheet.specs.Tokens.{token}
 use Rattle.sheet.proofs.Lines.{char_fits}
