@@ -1,4 +1,4 @@
 mod Takes
-mod Nested
+pub mod Nested
 mod Ledger
 mod Talks

@@ -1,7 +1,7 @@
 ghost use Rattle.std.specs.Prelude.{◌≡◌};
 ghost use Rattle.sheet.specs.Sheets.{held};
 ghost use Rattle.sheet.specs.Spots.{at_body};
-ghost use Rattle.access.specs.Elements.{element_read, element_shown};
+ghost use Rattle.access.specs.Elements.{element_read, element_shown, elements_ended, ended_shown};
 
 use crate::map_access::calls::{is_mark, take};
 use sheet::sheet::Sheet;
@@ -60,5 +60,16 @@ impl Elements {
             }
             Err(fault) => Err((self, fault)),
         }
+    }
+
+    // Ends the list, where nothing is left.
+    pub fn finish(self, sheet: &Sheet) -> Result<(), (Elements, Fault)>
+        ensures { ended_shown self.at result ≡ elements_ended (held sheet.now) self.at }
+    {
+        let rest = sheet.rest(self.at);
+        if rest.from < rest.to {
+            return Err((self, Fault::Leftover(rest.from)));
+        }
+        Ok(())
     }
 }

@@ -14,7 +14,7 @@ use Rattle.access.specs.declared.drive.ValueMove.TheVariants as at_value
 use Rattle.access.specs.declared.drive.Heard.{Heard}
 use Rattle.access.specs.declared.drive.Heard.TheVariants as hears
 use Rattle.access.specs.Plain.{Turn, key, value, over}
-use Rattle.access.specs.Talks.{Model, model, talk}
+use Rattle.access.specs.Talks.{model, talk}
 use Rattle.entries.specs.declared.entries.Entries.{Entries}
 use Rattle.entries.specs.declared.entries.Entries.TheVariants.{Reading, Ended, Stopped}
 

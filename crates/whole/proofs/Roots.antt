@@ -1,8 +1,8 @@
 -- Reads at record 0. Assumes nothing.
-use Rattle.std.proofs.Common.{◌≡◌, ℕ, zero, suc, ◌<◌, ◌≤◌, List, length, Ok, Err, sym, refl, ap, ◌∙◌, subst, inl, ⊎_elim, arith, MatchResult}
+use Rattle.std.proofs.Common.{◌≡◌, ℕ, zero, suc, ◌<◌, List, length, Ok, Err, sym, subst, inl, ⊎_elim, arith, MatchResult}
 use Rattle.std.proofs.lemmas.Bool.{cases_eq}
 use Rattle.layout.specs.declared.record.Record.{Record}
-use Rattle.layout.specs.Rules.{Parts, limits, Kept, InBody, Placed}
+use Rattle.layout.specs.Rules.{Parts, limits, Kept, Placed}
 use Rattle.sheet.specs.declared.spot.Spot.{Spot}
 use Rattle.sheet.specs.Spots.{Run, is_run, rest, at_root}
 use Rattle.token_de.specs.Meaning.{Answer, Meaning, Grammar, Exact}

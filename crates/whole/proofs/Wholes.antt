@@ -1,5 +1,5 @@
 -- Whole files. Assumes nothing.
-use Rattle.std.proofs.Common.{◌≡◌, ℕ, ◌≤◌, List, ◌++◌, length, take, drop, sym, ap, ◌∙◌, subst, arith, length-take}
+use Rattle.std.proofs.Common.{◌≡◌, ℕ, List, ◌++◌, length, take, drop, sym, ap, ◌∙◌, subst, arith, length-take}
 use Rattle.std.proofs.lemmas.Bool.{cond-true, and_from, le-leb}
 use Rattle.layout.specs.declared.record.Record.{Record}
 use Rattle.layout.specs.declared.fault.LoadFault.{LoadFault}
@@ -8,10 +8,10 @@ use Rattle.layout.proofs.Scans.{rules_kept}
 use Rattle.load.specs.Files.{Takes, shown}
 use Rattle.load.specs.Files as files
 use Rattle.sheet.specs.Sheets.{sheetable, sheet_of}
-use Rattle.refusal.specs.declared.fault.InternalError.{InternalError}
+use Rattle.token_de.specs.declared.fault.Fault.{Fault}
 use Rattle.token_de.specs.Meaning.{Meaning, Grammar}
 use Rattle.whole.specs.declared.error.FileError.TheVariants.{Load, Read}
-use Rattle.whole.specs.Wholes.{Covers, RootAccepted, RootRefused, Loaded, Reading, Accepted, Refused}
+use Rattle.whole.specs.Wholes.{RootAccepted, RootRefused, Loaded, Reading, Accepted, Refused}
 use Rattle.whole.proofs.Roots.{all_covered}
 
 module _ (f : List ℕ) (before after : List Record) (n : ℕ) (ns ss : List ℕ) (load : files.Accepted limits f before after n ns ss) where
@@ -36,7 +36,7 @@ module _ (f : List ℕ) (before after : List Record) (n : ℕ) (ns ss : List ℕ
         table = loaded;
       }
 
-  pub unread : {V : Type 0} {m : Meaning V} {w : Grammar V} (x : InternalError) → RootRefused m w (sheet_of n after ns ss) x → Refused m w f before after (Read x)
+  pub unread : {V : Type 0} {m : Meaning V} {w : Grammar V} (x : Fault) → RootRefused m w (sheet_of n after ns ss) x → Refused m w f before after (Read x)
   unread {V} {m} {w} x root = at_parts (subst (λ (h : Parts). RootRefused m w h x) sheet_is root)
     where
       at_parts : RootRefused m w (shown n after ns ss) x → Refused m w f before after (Read x)

@@ -1,11 +1,10 @@
 -- A whole file, read as one value. Assumes nothing.
 use Rattle.std.specs.Prelude.{◌≡◌, ℕ, ◌<◌, List, ◌++◌, length, drop, None, Err}
 use Rattle.layout.specs.declared.record.Record.{Record}
-use Rattle.layout.specs.declared.fault.LoadFault.{LoadFault}
 use Rattle.layout.specs.Rules.{Parts, limits, InBody}
 use Rattle.load.specs.Files.{Takes}
 use Rattle.load.specs.Files as files
-use Rattle.refusal.specs.declared.fault.InternalError.{InternalError}
+use Rattle.token_de.specs.declared.fault.Fault.{Fault}
 use Rattle.token_de.specs.Meaning.{Meaning, Grammar}
 use Rattle.access.specs.Nested.{InTree}
 use Rattle.whole.specs.declared.error.FileError.{FileError}
@@ -22,7 +21,7 @@ pub record RootAccepted {V : Type 0} (w : Grammar V) (h : Parts) (v : V) : Type 
   pub only : (u : V) (x : w h 0 1 u) → ◌≡◌ {A = (u : V) × w h 0 1 u} (u, x) (v, word)
 
 -- record 0 is no word, and the fault is that of the seed's meaning
-pub record RootRefused {V : Type 0} (m : Meaning V) (w : Grammar V) (h : Parts) (x : InternalError) : Type 0 where
+pub record RootRefused {V : Type 0} (m : Meaning V) (w : Grammar V) (h : Parts) (x : Fault) : Type 0 where
   pub none : (u : V) → w h 0 1 u → ⊥
   pub fault : m h 0 1 None ≡ Err x
 
@@ -44,7 +43,7 @@ pub record Accepted {V : Type 0} (w : Grammar V) (f : List ℕ) (before after : 
   pub table : Loaded parts before after
 
 -- REFUSED: the file has no reading, and the fault is the load's or the read's, whole
-pub record Unread {V : Type 0} (m : Meaning V) (f : List ℕ) (before after : List Record) (x : InternalError) : Type 0 where
+pub record Unread {V : Type 0} (m : Meaning V) (f : List ℕ) (before after : List Record) (x : Fault) : Type 0 where
   pub parts : Parts
   pub takes : Takes limits f (length before) parts
   pub fault : m parts 0 1 None ≡ Err x

@@ -1,28 +1,32 @@
 ghost use Rattle.std.specs.Prelude.{◌≡◌};
 
 use layout::fault::LoadFault;
-use refusal::fault::InternalError;
 use std::fmt;
+use token_de::fault::Fault;
 
 // Why a file is not read: the load refuses it, or what is read at record 0 does.
 #[derive(Clone, Copy, PartialEq, Eq, Debug)]
 pub enum FileError {
     Load(LoadFault),
-    Read(InternalError),
+    Read(Fault),
 }
 
 impl From<LoadFault> for FileError {
-    ghost from_gives = { λ fault error. error ≡ FileError.Load fault };
+    ghost use Rattle.whole.specs.declared.error.FileError.TheVariants.{Load};
+
+    ghost from_gives = { λ fault error. error ≡ Load fault };
 
     fn from(fault: LoadFault) -> FileError {
         FileError::Load(fault)
     }
 }
 
-impl From<InternalError> for FileError {
-    ghost from_gives = { λ fault error. error ≡ FileError.Read fault };
+impl From<Fault> for FileError {
+    ghost use Rattle.whole.specs.declared.error.FileError.TheVariants.{Read};
 
-    fn from(fault: InternalError) -> FileError {
+    ghost from_gives = { λ fault error. error ≡ Read fault };
+
+    fn from(fault: Fault) -> FileError {
         FileError::Read(fault)
     }
 }

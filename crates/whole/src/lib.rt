@@ -1,3 +1,5 @@
 // A file, loaded and read as one value.
+#![tactic(auto)]
+
 pub mod error;
 pub mod read;

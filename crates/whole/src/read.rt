@@ -5,9 +5,9 @@ ghost use Rattle.whole.specs.Wholes.{RootAccepted, RootRefused, Accepted, Refuse
 use crate::error::FileError;
 use layout::record::Record;
 use load::load::load;
-use refusal::fault::InternalError;
 use sheet::sheet::Sheet;
 use token_de::cursor::TokenDe;
+use token_de::fault::Fault;
 use token_de::seed::Words;
 
 // Reads record 0 of the sheet of these parts through the seed.
@@ -17,7 +17,7 @@ fn read_root<'a, S: Words>(
     names: &'a [u8],
     strings: &'a [u8],
     seed: &S,
-) -> Result<S::Value, InternalError>
+) -> Result<S::Value, Fault>
     ensures { MatchResult result
         (λ v. RootAccepted (S.Words.word seed.now) (sheet_of count table.now names.now strings.now) v)
         (λ x. RootRefused (S.Seed.meaning seed.now) (S.Words.word seed.now) (sheet_of count table.now names.now strings.now) x) }

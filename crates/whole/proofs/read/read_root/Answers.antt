@@ -1,4 +1,4 @@
-use Rattle.std.proofs.Common.{sym, subst, MatchResult}
+use Rattle.std.proofs.Common.{subst, MatchResult}
 use Rattle.layout.specs.Rules.{Parts, limits}
 use Rattle.layout.proofs.Scans.{kept_rules}
 use Rattle.sheet.specs.declared.spot.Spot.{Spot}
