@@ -6,6 +6,8 @@ mod bools;
 #[cfg(test)]
 mod build;
 #[cfg(test)]
+mod calls;
+#[cfg(test)]
 mod chars;
 #[cfg(test)]
 mod contents;
@@ -27,3 +29,5 @@ mod texts;
 mod units;
 #[cfg(test)]
 mod unsigneds;
+#[cfg(test)]
+mod wholes;

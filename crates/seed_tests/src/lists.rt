@@ -3,6 +3,7 @@ use crate::build::*;
 use crate::reads::*;
 use access::map_access::{KeyTurn, NextKey, ValueTurn};
 use access::seq_access::{Elements, NextElement};
+use entries::entries::read_whole;
 use even::even::Even;
 use layout::record::Record;
 use scalar::char::Char;
@@ -201,4 +202,25 @@ fn elements_end_at_a_comma_or_the_end(rt: HostRuntime) -> Result<(), Fail> {
     check_elements(&rt, &[root(3), one, comma, comma], Err((1, (10, 3, 2))))?;
     check_elements(&rt, &[root(2), one, one], Err((0, (14, 2, 0))))?;
     check_elements(&rt, &[root(2), one, punct(b'=')], Err((0, (14, 2, 0))))
+}
+
+fn check_whole(rt: &impl Abort, records: &[Record], want: bool) -> Result<(), Fail> {
+    let sheet = sheet_of(records);
+    assert_eq!(rt; read_whole(&sheet, body_of(rt, &sheet, records)?), want);
+    Ok(())
+}
+
+#[test]
+fn a_caller_reads_the_whole_list_or_stops(rt: HostRuntime) -> Result<(), Fail> {
+    let a = name(0);
+    let is = punct(b'=');
+    let comma = punct(b',');
+    let text = string(5, 4);
+    check_whole(&rt, &[root(0)], true)?;
+    check_whole(&rt, &[root(7), a, is, text, comma, a, is, a], true)?;
+    check_whole(&rt, &[root(8), a, is, a, comma, a, is, text, comma], true)?;
+    check_whole(&rt, &[root(5), a, is, a, comma, comma], false)?;
+    check_whole(&rt, &[root(6), a, is, a, a, is, a], false)?;
+    check_whole(&rt, &[root(2), a, is], false)?;
+    check_whole(&rt, &[root(3), a, is, integer(1)], false)
 }
