@@ -1,1 +1,2 @@
 pub mod Evens
+pub mod EvenLemmas

@@ -1,9 +1,5 @@
 ghost use Rattle.even.specs.Evens.{even_read};
-ghost use Rattle.std.specs.Prelude.{◌%◌, eqb};
-ghost use Rattle.std.proofs.Common.{arith};
-ghost use Rattle.token_de.specs.declared.fault.Wanted.TheVariants as wanted;
-ghost use Rattle.token_de.proofs.Trees.{tested_lawful};
-ghost use Rattle.scalar.specs.Integers.{magnitude_of};
+ghost use Rattle.even.specs.EvenLemmas.{even_lawful};
 
 use scalar::integer::magnitude_of;
 use sheet::sheet::Sheet;
@@ -23,7 +19,7 @@ impl Seed for Even {
 
     ghost meaning = { λ _. even_read };
 
-    ghost lawful = { λ _. tested_lawful wanted.Unsigned (λ h t. magnitude_of t) (λ v. eqb (v % 2) 0) 100 (omega arith) (omega arith) };
+    ghost lawful = { λ _. even_lawful };
 
     fn read(&self, sheet: &Sheet, rest: Rest) -> Result<Taken<u64>, Fault> {
         let token = next_token(sheet, rest, Wanted::Unsigned)?;

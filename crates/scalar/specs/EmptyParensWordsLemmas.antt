@@ -1,6 +1,9 @@
+-- The words of the unit seed. Assumes nothing.
 use Rattle.std.specs.Prelude.{◌≡◌, ℕ, Bool, cond, ◌&&◌, Some, None, ◌==◌, refl}
 use Rattle.layout.specs.Rules.{Parts}
 use Rattle.std.proofs.Common.{arith}
+use mathlib.Core.HLevel.{×_prop}
+use Rattle.std.proofs.Math.Nat.{ℕ_set}
 use base.Stored.{Coded-set}
 use Rattle.std.proofs.lemmas.Bool.Decides.{nat_tests}
 use Rattle.sheet.specs.contracts.token.Delimiter.{the_row}
@@ -9,7 +12,12 @@ use Rattle.sheet.specs.declared.token.Delimiter.TheVariants.{Parenthesis, Brace,
 use Rattle.sheet.specs.declared.token.Group.{Group}
 use Rattle.sheet.specs.declared.token.Token.{Token}
 use Rattle.sheet.specs.declared.token.Token.TheVariants as tokens
-use Rattle.scalar.specs.Units.{parenthesis, unit_of}
+use Rattle.sheet.specs.Tokens.{token}
+use Rattle.token_de.specs.declared.fault.Wanted.TheVariants as wanted
+use Rattle.token_de.specs.Meaning.{Exact}
+use Rattle.token_de.proofs.Trees.{single_exact}
+use Rattle.scalar.specs.Tokens.{token_one}
+use Rattle.scalar.specs.Units.{parenthesis, unit_of, unit_read, UnitWord, IsUnit}
 
 pub delimiter_set : IsSet Delimiter
 delimiter_set = Coded-set the_row.coded
@@ -26,3 +34,11 @@ empty h (tokens.Ident p) v is = absurd (let z : ◌≡◌ {A = ℕ} 0 1 = cc in 
 empty h (tokens.String p) v is = absurd (let z : ◌≡◌ {A = ℕ} 0 1 = cc in omega arith)
 empty h (tokens.Punct p) v is = absurd (let z : ◌≡◌ {A = ℕ} 0 1 = cc in omega arith)
 empty h (tokens.Literal l) v is = absurd (let z : ◌≡◌ {A = ℕ} 0 1 = cc in omega arith)
+
+-- the seed takes its words
+pub unit_exact : Exact unit_read UnitWord
+unit_exact =
+    single_exact wanted.Unit unit_of IsUnit
+    (λ h p v is. empty h (token h p) v is)
+    (λ h p v w. grind (arith, nat_tests))
+    (λ h p v. token_one tokens.Group (λ x y e. cc) (λ (g : Group). (g.delimiter ≡ Parenthesis) × (g.count ≡ 0)) (λ g. ×_prop (delimiter_set _ _) (ℕ_set _ _)) (token h p))

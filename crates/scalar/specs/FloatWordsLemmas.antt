@@ -1,12 +1,18 @@
-use Rattle.std.specs.Prelude.{◌≡◌, ℕ, Bool, ◌⊎◌, Some, ◌≢◌, refl}
-use Rattle.std.proofs.Common.{inl, inr, arith}
+-- The words of the float seed. Assumes nothing.
+use Rattle.std.specs.Prelude.{◌≡◌, ℕ, Bool, false, ◌⊎◌, Some, ◌≢◌, refl}
+use Rattle.std.proofs.Common.{sym, ap, ◌∙◌, inl, inr, arith}
+use Rattle.std.proofs.Math.Nat.{ℕ_set}
 use Rattle.sheet.specs.declared.token.Integer.{Integer}
 use Rattle.sheet.specs.declared.token.Literal.{Literal}
 use Rattle.sheet.specs.declared.token.Literal.TheVariants as literals
 use Rattle.sheet.specs.declared.token.Token.{Token}
 use Rattle.sheet.specs.declared.token.Token.TheVariants as tokens
 use Rattle.scalar.specs.Numbers.{on_some, minus}
-use Rattle.scalar.specs.Floats.{literal_bits, signed_bits, float_worth, numeral, numeral_bits, IsFloat}
+use Rattle.token_de.specs.Meaning.{Exact}
+use Rattle.token_de.specs.declared.fault.Wanted.TheVariants as wanted
+use Rattle.scalar.specs.Floats.{literal_bits, signed_bits, float_worth, float_read, FloatWord, numeral, numeral_bits, IsFloat}
+use Rattle.scalar.specs.NumbersLemmas.{number_exact}
+use Rattle.scalar.specs.Tokens.{token_one}
 
 pub sound : (b : Bool) (t : Token) (v : ℕ) → float_worth b t ≡ Some v → IsFloat b t v
 sound b (tokens.Literal l) v is = of_literal l is
@@ -37,3 +43,11 @@ same (inr x) (inr y) e = cc
 pub no_minus : (b : Bool) (v : ℕ) (n : Integer ⊎ ℕ) → minus ≢ numeral n
 no_minus b v (inl i) e = let z : ◌≡◌ {A = ℕ} 0 1 = cc in omega arith
 no_minus b v (inr x) e = let z : ◌≡◌ {A = ℕ} 0 1 = cc in omega arith
+
+-- the seed takes its words
+pub float_exact : Exact float_read FloatWord
+float_exact =
+    number_exact wanted.Float float_worth IsFloat sound
+    (λ b t v w. ap (float_worth b) w.1 ∙ worth_of b w.0 ∙ ap Some (sym w.2))
+    (λ b t v. token_one numeral same (λ (n : Integer ⊎ ℕ). v ≡ signed_bits b (numeral_bits n)) (λ _. ℕ_set _ _) t)
+    (λ v w. no_minus false v w.0 w.1)

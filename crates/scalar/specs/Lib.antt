@@ -13,6 +13,7 @@ pub mod BoolWordsLemmas
 pub mod NumbersLemmas
 pub mod FloatWordsLemmas
 pub mod SignedWordsLemmas
-pub mod IdentifierWordsLemmas
+pub mod TextWordsLemmas
+pub mod CharWordsLemmas
 pub mod EmptyParensWordsLemmas
 pub mod UnsignedWordsLemmas

@@ -1,13 +1,19 @@
+-- The words of the signed seeds. Assumes nothing.
 use Rattle.std.specs.Prelude.{◌≡◌, ℕ, Bool, true, false, cond, ◌&&◌, T, ℤ, ◌≤ℤ◌, Some, None, Option, int_le, refl}
 use Rattle.std.proofs.Common.{sym, ap, subst, ◌∙◌, arith}
+use mathlib.Core.HLevel.{×₃_prop}
+use Rattle.std.proofs.Math.IntN.{ℤ_set}
 use Rattle.std.proofs.Math.Dec.{T_prop}
 use Rattle.std.proofs.lemmas.Bool.{cond-true, and_from}
 use Rattle.sheet.specs.declared.token.Token.{Token}
 use Rattle.scalar.specs.declared.signed.Signed.{Signed}
-use Rattle.scalar.specs.Integers.{magnitude_of}
+use Rattle.token_de.specs.declared.fault.Wanted.TheVariants as wanted
+use Rattle.token_de.specs.Meaning.{Exact}
+use Rattle.scalar.specs.Integers.{magnitude_of, integer}
 use Rattle.scalar.specs.Numbers.{on_some}
-use Rattle.scalar.specs.Signeds.{signed_value, inside, signed_worth, IsSigned}
-use Rattle.scalar.specs.Tokens.{integer_of}
+use Rattle.scalar.specs.NumbersLemmas.{number_exact}
+use Rattle.scalar.specs.Signeds.{signed_value, inside, signed_worth, signed_read, SignedWord, IsSigned}
+use Rattle.scalar.specs.Tokens.{token_one, integer_of, integer_same}
 
 pub le_one : (a b : ℤ) → IsProp (a ≤ℤ b)
 le_one a b x y n = record { le = T_prop (int_le a b) x.le y.le n }
@@ -44,3 +50,10 @@ module _ (s : Signed) where
 
   pub complete : (b : Bool) (t : Token) (v : ℤ) → IsSigned s b t v → signed_worth s b t ≡ Some v
   complete b t v w = ap (λ (x : Token). signed_worth s b x) w.1 ∙ ap (inside s) (sym w.2.0) ∙ inside_is v w.2.1 w.2.2
+
+-- the seed takes its words
+pub signed_exact : (s : Signed) → Exact (signed_read s) (SignedWord s)
+signed_exact s =
+    number_exact wanted.Signed (signed_worth s) (IsSigned s) (sound s) (complete s)
+    (λ b t v. token_one (λ (n : ℕ × ℕ). integer n.0 n.1) (λ x y e. integer_same x y e) (λ (n : ℕ × ℕ). (v ≡ signed_value b n.0) × (s.low ≤ℤ v) × (v ≤ℤ s.high)) (λ n. ×₃_prop (ℤ_set v (signed_value b n.0)) (le_one s.low v) (le_one v s.high)) t)
+    (λ v w. let z : ◌≡◌ {A = ℕ} 0 1 = cc w.1 in omega arith)

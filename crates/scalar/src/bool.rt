@@ -1,18 +1,9 @@
 ghost use Rattle.std.specs.Prelude.{◌≡◌};
-ghost use Rattle.std.proofs.Common.{ap, ◌∙◌};
 ghost use Rattle.std.specs.Str.{bytes_eq};
-ghost use Rattle.scalar.specs.Bools.{truth, bool_read, BoolWord, bool_of, spelling, IsBool};
+ghost use Rattle.scalar.specs.Bools.{truth, bool_read, BoolWord, bool_of};
 ghost use Rattle.token_de.specs.declared.fault.Wanted.TheVariants as wanted;
-ghost use Rattle.token_de.proofs.Trees.{single_lawful, single_exact};
-ghost use mathlib.Core.List.{is_set};
-ghost use Rattle.std.proofs.Math.Nat.{ℕ_set};
-ghost use Rattle.sheet.specs.declared.token.Part.{Part};
-ghost use Rattle.sheet.specs.declared.token.Token.{Token};
-ghost use Rattle.sheet.specs.declared.token.Token.TheVariants as tokens;
-ghost use Rattle.sheet.specs.Tokens.{token, bytes_of};
-ghost use Rattle.scalar.specs.Spellings.{spelt};
-ghost use Rattle.scalar.specs.Tokens.{token_one};
-ghost use Rattle.scalar.specs.BoolWordsLemmas.{read_so};
+ghost use Rattle.token_de.proofs.Trees.{single_lawful};
+ghost use Rattle.scalar.specs.BoolWordsLemmas.{bool_exact};
 
 use sheet::sheet::Sheet;
 use sheet::spot::Rest;
@@ -65,9 +56,5 @@ impl Seed for Bool {
 impl Words for Bool {
     ghost word = { λ _. BoolWord };
 
-    ghost exact = { λ _.
-        single_exact wanted.Bool bool_of IsBool
-        (λ h p v is. read_so h (token h p) v is)
-        (λ h p v w. ap (λ (t : Token). bool_of h t) w.1 ∙ ap truth w.2 ∙ spelt v)
-        (λ h p v. token_one tokens.Ident (λ x y e. cc) (λ (part : Part). bytes_of h.names part ≡ spelling v) (λ _. is_set ℕ_set _ _) (token h p)) };
+    ghost exact = { λ _. bool_exact };
 }

@@ -1,8 +1,7 @@
-ghost use Rattle.scalar.specs.Chars.{char_read, CharWord, char_of, IsChar};
+ghost use Rattle.scalar.specs.Chars.{char_read, CharWord, char_of};
 ghost use Rattle.token_de.specs.declared.fault.Wanted.TheVariants as wanted;
-ghost use Rattle.token_de.proofs.Trees.{single_lawful, token_set, single_exact};
-ghost use Rattle.std.proofs.Common.{arith};
-ghost use Rattle.std.proofs.lemmas.Bool.Decides.{nat_tests};
+ghost use Rattle.token_de.proofs.Trees.{single_lawful};
+ghost use Rattle.scalar.specs.CharWordsLemmas.{char_exact};
 
 use sheet::sheet::Sheet;
 use sheet::spot::Rest;
@@ -32,9 +31,5 @@ impl Seed for Char {
 impl Words for Char {
     ghost word = { λ _. CharWord };
 
-    ghost exact = { λ _.
-        single_exact wanted.Char char_of IsChar
-        (λ h p v is. Prim.grind (arith, nat_tests))
-        (λ h p v w. Prim.grind (arith, nat_tests))
-        (λ h p v. token_set _ _) };
+    ghost exact = { λ _. char_exact };
 }

@@ -1,12 +1,8 @@
-ghost use Rattle.std.specs.Prelude.{◌≡◌, ℕ, false, ◌⊎◌, Some};
-ghost use Rattle.std.proofs.Common.{sym, ap, ◌∙◌};
-ghost use Rattle.scalar.specs.Floats.{bits_of, float_worth, float_read, FloatWord, signed_bits, numeral, numeral_bits, IsFloat};
+ghost use Rattle.std.specs.Prelude.{◌≡◌};
+ghost use Rattle.scalar.specs.Floats.{bits_of, float_worth, float_read, FloatWord};
 ghost use Rattle.token_de.specs.declared.fault.Wanted.TheVariants as wanted;
-ghost use Rattle.scalar.specs.NumbersLemmas.{number_lawful, number_exact};
-ghost use Rattle.std.proofs.Math.Nat.{ℕ_set};
-ghost use Rattle.sheet.specs.declared.token.Integer.{Integer};
-ghost use Rattle.scalar.specs.Tokens.{token_one};
-ghost use Rattle.scalar.specs.FloatWordsLemmas.{sound, worth_of, same, no_minus};
+ghost use Rattle.scalar.specs.NumbersLemmas.{number_lawful};
+ghost use Rattle.scalar.specs.FloatWordsLemmas.{float_exact};
 
 use crate::number::{Numeral, read_number};
 use sheet::sheet::Sheet;
@@ -62,9 +58,5 @@ impl Seed for Float {
 impl Words for Float {
     ghost word = { λ _. FloatWord };
 
-    ghost exact = { λ _.
-        number_exact wanted.Float float_worth IsFloat sound
-        (λ b t v w. ap (float_worth b) w.1 ∙ worth_of b w.0 ∙ ap Some (sym w.2))
-        (λ b t v. token_one numeral same (λ (n : Integer ⊎ ℕ). v ≡ signed_bits b (numeral_bits n)) (λ _. ℕ_set _ _) t)
-        (λ v w. no_minus false v w.0 w.1) };
+    ghost exact = { λ _. float_exact };
 }

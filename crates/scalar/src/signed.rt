@@ -1,13 +1,8 @@
-ghost use Rattle.std.specs.Prelude.{◌≡◌, ℕ, ◌≤ℤ◌};
-ghost use Rattle.scalar.specs.Signeds.{signed_value, inside, signed_worth, signed_read, SignedWord, IsSigned};
+ghost use Rattle.std.specs.Prelude.{◌≡◌};
+ghost use Rattle.scalar.specs.Signeds.{signed_value, inside, signed_worth, signed_read, SignedWord};
 ghost use Rattle.token_de.specs.declared.fault.Wanted.TheVariants as wanted;
-ghost use Rattle.scalar.specs.NumbersLemmas.{number_lawful, number_exact};
-ghost use mathlib.Core.HLevel.{×₃_prop};
-ghost use Rattle.std.proofs.Common.{arith};
-ghost use Rattle.std.proofs.Math.IntN.{ℤ_set};
-ghost use Rattle.scalar.specs.Integers;
-ghost use Rattle.scalar.specs.Tokens.{token_one, integer_same};
-ghost use Rattle.scalar.specs.SignedWordsLemmas.{le_one, sound, complete};
+ghost use Rattle.scalar.specs.NumbersLemmas.{number_lawful};
+ghost use Rattle.scalar.specs.SignedWordsLemmas.{signed_exact};
 
 use crate::integer::magnitude_of;
 use crate::number::{Numeral, read_number};
@@ -88,8 +83,5 @@ impl Seed for Signed {
 impl Words for Signed {
     ghost word = { SignedWord };
 
-    ghost exact = { λ s.
-        number_exact wanted.Signed (signed_worth s) (IsSigned s) (sound s) (complete s)
-        (λ b t v. token_one (λ (n : ℕ × ℕ). Integers.integer n.0 n.1) (λ x y e. integer_same x y e) (λ (n : ℕ × ℕ). (v ≡ signed_value b n.0) × (s.low ≤ℤ v) × (v ≤ℤ s.high)) (λ n. ×₃_prop (ℤ_set v (signed_value b n.0)) (le_one s.low v) (le_one v s.high)) t)
-        (λ v w. let z : ◌≡◌ {A = ℕ} 0 1 = cc w.1 in omega arith) };
+    ghost exact = { signed_exact };
 }

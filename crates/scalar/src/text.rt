@@ -1,10 +1,7 @@
-ghost use Rattle.scalar.specs.Texts.{identifier_read, IdentifierWord, string_read, StringWord, TextRefusedAsString, identifier_of, IsIdentifier, string_of, IsText};
+ghost use Rattle.scalar.specs.Texts.{identifier_read, IdentifierWord, string_read, StringWord, TextRefusedAsString, identifier_of, string_of};
 ghost use Rattle.token_de.specs.declared.fault.Wanted.TheVariants as wanted;
-ghost use Rattle.token_de.proofs.Trees.{single_lawful, token_set, single_exact};
-ghost use Rattle.std.proofs.Common.{arith};
-ghost use mathlib.Core.HLevel.{×_prop};
-ghost use Rattle.std.proofs.lemmas.Bool.Decides.{nat_tests};
-ghost use Rattle.scalar.specs.IdentifierWordsLemmas.{pool_set};
+ghost use Rattle.token_de.proofs.Trees.{single_lawful};
+ghost use Rattle.scalar.specs.TextWordsLemmas.{identifier_exact, string_exact};
 
 use sheet::sheet::Sheet;
 use sheet::spot::Rest;
@@ -54,11 +51,7 @@ impl Seed for Identifier {
 impl Words for Identifier {
     ghost word = { λ _. IdentifierWord };
 
-    ghost exact = { λ _.
-        single_exact wanted.Identifier identifier_of IsIdentifier
-        (λ h p v is. (Prim.grind (arith, nat_tests), Prim.grind (arith, nat_tests)))
-        (λ h p v w. Prim.grind (arith, nat_tests))
-        (λ h p v. ×_prop (token_set _ _) (pool_set _ _)) };
+    ghost exact = { λ _. identifier_exact };
 }
 
 impl Seed for Str {
@@ -94,11 +87,7 @@ impl Seed for Str {
 impl Words for Str {
     ghost word = { λ _. StringWord };
 
-    ghost exact = { λ _.
-        single_exact wanted.String string_of IsText
-        (λ h p v is. Prim.grind (arith, nat_tests))
-        (λ h p v w. Prim.grind (arith, nat_tests))
-        (λ h p v. token_set _ _) };
+    ghost exact = { λ _. string_exact };
 }
 
 // The text read of a cursor is refused exactly as this seed is.
