@@ -26,6 +26,19 @@ pub fn start(rt: &impl Abort, sheet: &Sheet, records: &[Record]) -> Result<Token
     }
 }
 
+// How the seed refuses what is next; none where it takes it. A refusal leaves the cursor.
+fn refusal_of<S: Words>(
+    rt: &impl Abort,
+    cursor: &mut TokenDe,
+    sheet: &Sheet,
+    seed: &S,
+) -> Option<Refusal> {
+    let before = *cursor;
+    let fault = cursor.read(sheet, seed).err()?;
+    assert!(rt; *cursor == before, "the cursor moved");
+    Some((fault.number(), fault.record(), fault.detail()))
+}
+
 // The seed refuses what is next, and the cursor stays.
 pub fn check_stays<S: Words>(
     rt: &impl Abort,
@@ -34,12 +47,7 @@ pub fn check_stays<S: Words>(
     seed: &S,
     want: Refusal,
 ) -> Result<(), Fail> {
-    let before = *cursor;
-    let Err(fault) = cursor.read(sheet, seed) else {
-        return Err(Fail::new("taken"));
-    };
-    assert_eq!(rt; (fault.number(), fault.record(), fault.detail()), want);
-    assert!(rt; *cursor == before, "the cursor moved");
+    assert_eq!(rt; refusal_of(rt, cursor, sheet, seed), Some(want));
     Ok(())
 }
 
@@ -51,7 +59,13 @@ pub fn check_refused<S: Words>(
     want: Refusal,
 ) -> Result<(), Fail> {
     let sheet = sheet_of(records);
-    check_stays(rt, &mut start(rt, &sheet, records)?, &sheet, seed, want)
+    let mut cursor = start(rt, &sheet, records)?;
+    assert_eq!(rt;
+        refusal_of(rt, &mut cursor, &sheet, seed),
+        Some(want),
+        "of {records:?}"
+    );
+    Ok(())
 }
 
 // The seed refuses each of these tokens before a comma: 10 at the token.
