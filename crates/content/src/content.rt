@@ -24,6 +24,7 @@ fn one(value: Datum) -> Taken<Datum>
 }
 
 // One content word, of at most `depth` levels.
+#[tactic(auto, using(crate::specs::Depths::some_levels))]
 #[cycle(content_content_group_content_list_content_members)]
 pub(crate) fn content(sheet: &Sheet, rest: Rest, depth: usize) -> Result<Taken<Datum>, Fault>
     requires run { Run (held sheet.now) rest.from rest.to }

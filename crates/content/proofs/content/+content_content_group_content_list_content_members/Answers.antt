@@ -21,9 +21,6 @@ content-truth_at-requires t c = omega (arith, c.if-at-rest.false, run_inside (he
 pub content-from_punct-requires : goal.content-from_punct-requires
 content-from_punct-requires t c = (c.if-at-rest.false, run_inside (held c.args.sheet.now) c.args.rest.from c.args.rest.to (sheet_kept c.args.sheet.now) c.requires.run)
 
-pub content-overflow_sub-depth : goal.content-overflow_sub-depth
-content-overflow_sub-depth t c = some_levels c.args.depth (held c.args.sheet.now) c.args.rest.from c.args.rest.to c.requires.levels c.if-at-rest.false
-
 pub content-content_group-requires : goal.content-content_group-requires
 content-content_group-requires t c =
     let some = some_levels c.args.depth (held c.args.sheet.now) c.args.rest.from c.args.rest.to c.requires.levels c.if-at-rest.false in
