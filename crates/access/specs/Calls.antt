@@ -1,5 +1,5 @@
 -- Whole runs of calls on a member list, and what becomes of its tokens. Assumes nothing.
-use Rattle.std.specs.Prelude.{◌≡◌, ℕ, ◌+◌, ◌<◌, ◌≤◌, Bool, true, false, ◌&&◌, ◌⊎◌, List, [], ◌∷◌, length, Ok, Err, nat_le, nat_lt}
+use Rattle.std.specs.Prelude.{◌≡◌, ℕ, ◌+◌, ◌<◌, ◌≤◌, Bool, true, false, ◌&&◌, ◌⊎◌, List, [], ◌∷◌, length, Ok, Err, Option, is_ok, is_some, nat_le, nat_lt}
 use Rattle.layout.specs.Rules.{Parts, limits, Kept}
 use Rattle.sheet.specs.declared.spot.Spot.{Spot}
 use Rattle.sheet.specs.declared.token.Group.{Group}
@@ -10,7 +10,7 @@ use Rattle.sheet.specs.Spots.{rest, at_root, at_body, body_of}
 use Rattle.token_de.specs.declared.seed.Taken.{Taken}
 use Rattle.token_de.specs.Meaning.{Answer, Meaning, Lawful}
 use Rattle.access.specs.Nested.{InTree}
-use Rattle.access.specs.Plain.{equals_mark, comma, Turn, key, value, over, Said, none, accepted, refused, Step, key_read, value_read, finished}
+use Rattle.access.specs.Plain.{equals_mark, comma, Turn, key, value, over, Step, key_read, value_read, finished}
 
 -- the law is about tokens, so the values of the seeds are left out of it: seeds of all types meet in one run of calls
 abbrev pub Erased : Type 0
@@ -23,11 +23,11 @@ pub record State : Type 0 where
 
 -- a call, with its seed's meaning and its answer
 pub data Event : Type 0 where
-  key_call : Erased → Said (Unit {0}) → Event
-  value_call : Erased → Said (Unit {0}) → Event
-  finish_call : Said (Unit {0}) → Event
+  key_call : Erased → Answer (Option (Unit {0})) → Event
+  value_call : Erased → Answer (Unit {0}) → Event
+  finish_call : Answer (Unit {0}) → Event
 
-abbrev pub lands : Step (Unit {0}) → State
+abbrev pub lands : {V : Type 0} → Step V → State
 lands t = record { turn = t.turn; at = t.at }
 
 abbrev pub after : Parts → State → Event → State
@@ -50,22 +50,27 @@ abbrev pub finally : Parts → State → List Event → State
 finally h s [] = s
 finally h s (e ∷ es) = finally h (after h s e) es
 
--- how many trees an accepted read took
+-- a key read is accepted if it answers a key
+abbrev pub has_key : Answer (Option (Unit {0})) → Bool
+has_key (Ok a) = is_some a
+has_key (Err f) = false
+
+-- how many trees a seed took
 abbrev pub number : Answer (Taken (Unit {0})) → ℕ
 number (Ok t) = t.count
 number (Err f) = 0
 
-abbrev pub trees : Answer (Taken (Unit {0})) → Said (Unit {0}) → ℕ
-trees o none = 0
-trees o (accepted v) = number o
-trees o (refused f) = 0
+-- and a read: none, unless it was accepted
+abbrev pub trees : Answer (Taken (Unit {0})) → Bool → ℕ
+trees o true = number o
+trees o false = 0
 
 abbrev pub answer_of : Parts → Erased → Spot → Answer (Taken (Unit {0}))
 answer_of h m s = m h (rest h s).from (rest h s).to (rest h s).last
 
 abbrev pub taken : Parts → State → Event → ℕ
-taken h s (key_call m a) = trees (answer_of h m s.at) a
-taken h s (value_call m a) = trees (answer_of h m s.at) a
+taken h s (key_call m a) = trees (answer_of h m s.at) (has_key a)
+taken h s (value_call m a) = trees (answer_of h m s.at) (is_ok a)
 taken h s (finish_call a) = 0
 
 -- whether the call took token k
@@ -82,14 +87,13 @@ takers h s [] k = 0
 takers h s (e ∷ es) k = bit (took h s e k) + takers h (after h s e) es k
 
 -- token k is the one `=` after an accepted key, or the one comma after an accepted value
-abbrev pub Follows : Parts → Punct → Spot → Answer (Taken (Unit {0})) → Said (Unit {0}) → ℕ → Type 0
-Follows h c s o none k = ⊥
-Follows h c s o (accepted v) k = (k ≡ s.place + number o) × (token h k ≡ tokens.Punct c)
-Follows h c s o (refused f) k = ⊥
+abbrev pub Follows : Parts → Punct → Spot → Answer (Taken (Unit {0})) → Bool → ℕ → Type 0
+Follows h c s o true k = (k ≡ s.place + number o) × (token h k ≡ tokens.Punct c)
+Follows h c s o false k = ⊥
 
 abbrev pub Marks : Parts → State → Event → ℕ → Type 0
-Marks h s (key_call m a) k = Follows h equals_mark s.at (answer_of h m s.at) a k
-Marks h s (value_call m a) k = Follows h comma s.at (answer_of h m s.at) a k
+Marks h s (key_call m a) k = Follows h equals_mark s.at (answer_of h m s.at) (has_key a) k
+Marks h s (value_call m a) k = Follows h comma s.at (answer_of h m s.at) (is_ok a) k
 Marks h s (finish_call a) k = ⊥
 
 abbrev pub Marked : Parts → State → List Event → ℕ → Type 0

@@ -1,8 +1,9 @@
 -- The member list as a plain list: its turn, the last token passed and the rest of its run, and what each call does to it.
 -- Assumes nothing.
-use Rattle.std.specs.Prelude.{ℕ, ◌+◌, Bool, false, cond, ◌&&◌, length, Ok, Err, Result, ◌==◌, nat_lt}
+use Rattle.std.specs.Prelude.{ℕ, ◌+◌, Bool, false, cond, ◌&&◌, length, Some, None, Ok, Err, Option, Result, ◌==◌, nat_lt}
 use Rattle.layout.specs.Rules.{Parts}
 use Rattle.sheet.specs.declared.spot.Spot.{Spot}
+use Rattle.sheet.specs.declared.spot.Rest.{Rest}
 use Rattle.sheet.specs.declared.token.Punct.{Punct}
 use Rattle.sheet.specs.declared.token.Token.{Token}
 use Rattle.sheet.specs.declared.token.Token.TheVariants as tokens
@@ -41,30 +42,45 @@ pub data Turn : Type 0 where
   value : Turn
   over : Turn
 
--- what a call answers: no more entries, accepted with a value, or refused
-pub data Said (V : Type 0) : Type 0 where
-  none : Said V
-  accepted : V → Said V
-  refused : Fault → Said V
-
 -- a call's answer, and the list after it
 pub record Step (V : Type 0) : Type 0 where
-  pub said : Said V
+  pub said : Answer V
   pub turn : Turn
   pub at : Spot
 
-abbrev pub step : {V : Type 0} → Said V → Turn → Spot → Step V
+abbrev pub step : {V : Type 0} → Answer V → Turn → Spot → Step V
 step a t s = record { said = a; turn = t; at = s }
 
--- A KEY READ: the seed's trees and the `=` after them; 13 names the token found, else the key's first
-abbrev pub key_taken : {V : Type 0} → Parts → Spot → ℕ → ℕ → Answer (Taken V) → Step V
-key_taken h s p e (Ok t) = cond (marked h equals_mark (p + t.count) e)
-    (step (accepted t.value) value (past s (p + t.count + 1)))
-    (step (refused (NoEquals (cond (nat_lt (p + t.count) e) (p + t.count) p))) key s)
-key_taken h s p e (Err f) = step (refused f) key s
+-- the seed's trees and the `=` after them: the value, and the place behind the `=`; 13 names the token found, else the key's first
+abbrev pub key_taken : {V : Type 0} → Parts → ℕ → ℕ → Answer (Taken V) → Answer (V × ℕ)
+key_taken h p e (Ok t) = cond (marked h equals_mark (p + t.count) e)
+    (Ok (t.value, p + t.count + 1))
+    (Err (NoEquals (cond (nat_lt (p + t.count) e) (p + t.count) p)))
+key_taken h p e (Err f) = Err f
 
-abbrev pub key_read : {V : Type 0} → Parts → Meaning V → Spot → Step V
-key_read h m s = let r = rest h s in cond (r.from == r.to) (step none key s) (key_taken h s r.from r.to (m h r.from r.to r.last))
+-- the seed's trees, and then the end or one comma: the value, and the place behind
+abbrev pub element_taken : {V : Type 0} → Parts → ℕ → ℕ → Answer (Taken V) → Answer (V × ℕ)
+element_taken h p e (Ok t) = cond (p + t.count == e)
+    (Ok (t.value, p + t.count))
+    (cond (marked h comma (p + t.count) e)
+    (Ok (t.value, p + t.count + 1))
+    (Err (NoSeparator (p + t.count))))
+element_taken h p e (Err f) = Err f
+
+-- the end: nothing is left
+abbrev pub left_over : Rest → Answer (Unit {0})
+left_over r = cond (nat_lt r.from r.to) (Err (Leftover r.from)) (Ok tt)
+
+abbrev pub ended : Parts → Spot → Answer (Unit {0})
+ended h s = left_over (rest h s)
+
+-- A KEY READ: none if nothing is left, else a key and its `=`
+abbrev pub key_step : {V : Type 0} → Spot → Answer (V × ℕ) → Step (Option V)
+key_step s (Ok r) = step (Ok (Some r.0)) value (past s r.1)
+key_step s (Err f) = step (Err f) key s
+
+abbrev pub key_read : {V : Type 0} → Parts → Meaning V → Spot → Step (Option V)
+key_read h m s = let r = rest h s in cond (r.from == r.to) (step (Ok None) key s) (key_step s (key_taken h r.from r.to (m h r.from r.to r.last)))
 
 -- a data fault at record 0 is named by the first token of the value, if there is one
 abbrev pub name_data : ℕ → ℕ → DataFault → ℕ → Fault
@@ -80,32 +96,32 @@ named p e (NoSeparator i) = NoSeparator i
 named p e (Leftover i) = Leftover i
 named p e (Unreadable i) = Unreadable i
 
--- A VALUE READ: the seed's trees, and then the end or one comma
-abbrev pub value_taken : {V : Type 0} → Parts → Spot → ℕ → ℕ → Answer (Taken V) → Step V
-value_taken h s p e (Ok t) = cond (p + t.count == e)
-    (step (accepted t.value) key (past s (p + t.count)))
-    (cond (marked h comma (p + t.count) e)
-    (step (accepted t.value) key (past s (p + t.count + 1)))
-    (step (refused (NoSeparator (p + t.count))) value s))
-value_taken h s p e (Err f) = step (refused (named p e f)) value s
+-- A VALUE READ: a value, and then the end or one comma
+abbrev pub value_step : {V : Type 0} → ℕ → ℕ → Spot → Answer (V × ℕ) → Step V
+value_step p e s (Ok r) = step (Ok r.0) key (past s r.1)
+value_step p e s (Err f) = step (Err (named p e f)) value s
 
 abbrev pub value_read : {V : Type 0} → Parts → Meaning V → Spot → Step V
-value_read h m s = let r = rest h s in value_taken h s r.from r.to (m h r.from r.to r.last)
+value_read h m s = let r = rest h s in value_step r.from r.to s (element_taken h r.from r.to (m h r.from r.to r.last))
 
 -- A FINISH: accepted if nothing is left
+abbrev pub finish_step : Spot → Answer (Unit {0}) → Step (Unit {0})
+finish_step s (Ok u) = step (Ok tt) over s
+finish_step s (Err f) = step (Err f) key s
+
 abbrev pub finished : Parts → Spot → Step (Unit {0})
-finished h s = let r = rest h s in cond (nat_lt r.from r.to) (step (refused (Leftover r.from)) key s) (step (accepted tt) over s)
+finished h s = finish_step s (ended h s)
 
 -- the code's answers as those of the plain list; a refusal shows the turn that it hands back
-abbrev pub key_shown : {V : Type 0} → Result (NextKey V) (KeyTurn × Fault) → Step V
-key_shown (Ok (next.None t)) = step none key t.at
-key_shown (Ok (next.Key v t)) = step (accepted v) value t.at
-key_shown (Err r) = step (refused r.1) key r.0.at
+abbrev pub key_shown : {V : Type 0} → Result (NextKey V) (KeyTurn × Fault) → Step (Option V)
+key_shown (Ok (next.None t)) = step (Ok None) key t.at
+key_shown (Ok (next.Key v t)) = step (Ok (Some v)) value t.at
+key_shown (Err r) = step (Err r.1) key r.0.at
 
 abbrev pub value_shown : {V : Type 0} → Result (V × KeyTurn) (ValueTurn × Fault) → Step V
-value_shown (Ok r) = step (accepted r.0) key r.1.at
-value_shown (Err r) = step (refused r.1) value r.0.at
+value_shown (Ok r) = step (Ok r.0) key r.1.at
+value_shown (Err r) = step (Err r.1) value r.0.at
 
 abbrev pub finish_shown : Spot → Result (Unit {0}) (KeyTurn × Fault) → Step (Unit {0})
-finish_shown s (Ok u) = step (accepted tt) over s
-finish_shown s (Err r) = step (refused r.1) key r.0.at
+finish_shown s (Ok u) = step (Ok tt) over s
+finish_shown s (Err r) = step (Err r.1) key r.0.at

@@ -3,4 +3,5 @@
 
 pub mod drive;
 pub mod map_access;
+pub mod reads;
 pub mod seq_access;

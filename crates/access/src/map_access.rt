@@ -15,7 +15,8 @@ pub struct ValueTurn {
     at: Spot,
 }
 
-// What a key read answers: no more entries, or a key and the turn to read its value.
+// What a key read answers: no more entries and the turn to finish, or a key and the turn to read its value. Each
+// case hands on a turn, so it is no `Option`.
 #[derive(Drop)]
 pub enum NextKey<V> {
     None(KeyTurn),

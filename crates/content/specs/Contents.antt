@@ -3,8 +3,8 @@ use Rattle.std.specs.Prelude.{ℕ, zero, suc, ◌+◌, ◌^◌, Bool, cond, ◌&
 use Rattle.std.specs.Option.{unwrap_or}
 use Rattle.layout.specs.Rules.{Parts}
 use Rattle.sheet.specs.declared.text.Pool.TheVariants.{Names, Strings}
-use Rattle.sheet.specs.declared.token.Delimiter.{Delimiter}
-use Rattle.sheet.specs.declared.token.Delimiter.TheVariants.{Parenthesis, Brace, Bracket, Invisible}
+use Rattle.layout.specs.declared.kind.Delimiter.{Delimiter}
+use Rattle.layout.specs.declared.kind.Delimiter.TheVariants.{Parenthesis, Brace, Bracket, Invisible}
 use Rattle.sheet.specs.declared.token.Part.{Part}
 use Rattle.sheet.specs.declared.token.Punct.{Punct}
 use Rattle.sheet.specs.declared.token.Literal.{Literal}
@@ -18,6 +18,7 @@ use Rattle.token_de.specs.declared.fault.Wanted.TheVariants as wanted
 use Rattle.token_de.specs.Meaning.{Answer, Meaning}
 use Rattle.token_de.specs.Steps.{◌then◌}
 use Rattle.scalar.specs.Bools.{truth}
+use Rattle.scalar.specs.declared.text.TextPart.{TextPart}
 use Rattle.scalar.specs.Texts.{in_pool}
 use Rattle.content.specs.declared.datum.Datum.{Datum}
 use Rattle.content.specs.declared.datum.Datum.TheVariants as datum
@@ -97,6 +98,9 @@ from_token h m p e (tokens.Group g) = from_group h m p g.first g.count g.delimit
 
 abbrev pub none_left : {V : Type 0} → Option ℕ → Answer (Taken V)
 none_left last = Err (Ended wanted.Content (unwrap_or last 0))
+
+abbrev pub text_value : Taken TextPart → Answer (Taken Datum)
+text_value t = taken t.count (datum.Text t.value)
 
 -- content of at most n levels
 unfoldable pub content : ℕ → Meaning Datum

@@ -1,11 +1,10 @@
 -- The rules of a sheet bound the levels of its runs. Assumes nothing.
-use Rattle.std.specs.Prelude.{◌≡◌, ℕ, zero, suc, ◌+◌, ◌-◌, ◌<◌, ◌≤◌, true, length}
+use Rattle.std.specs.Prelude.{◌≡◌, ℕ, zero, suc, ◌+◌, ◌-◌, ◌<◌, ◌≤◌, true, Some, length}
 use Rattle.std.proofs.Math.Path.{refl, subst}
-use Rattle.std.proofs.Common.{sym, inr, arith}
+use Rattle.std.proofs.Common.{sym, arith}
 use Rattle.std.proofs.Math.Logic.{⊎_elim}
 use Rattle.std.proofs.lemmas.List.{get_or_past}
-use Rattle.std.proofs.lemmas.Bool.{cases_lt, and_from, le-leb}
-use Rattle.std.proofs.lemmas.Bool.Decides.{nat_tests}
+use Rattle.std.proofs.lemmas.Bool.{cases_lt, le-ltb}
 use Rattle.layout.specs.Rules.{Parts, limits, no_record, entry, group, bodies_end, Depth, top, below, Kept}
 use Rattle.layout.proofs.Bodies.{inside_end}
 use Rattle.layout.proofs.Scans.{rules_kept, kept_rules}
@@ -15,16 +14,19 @@ use Rattle.sheet.specs.declared.token.Token.TheVariants as tokens
 use Rattle.sheet.specs.Tokens.{token, token_of}
 use Rattle.sheet.specs.declared.sheet.Sheet.{Sheet}
 use Rattle.sheet.specs.Sheets.{held}
-use Rattle.sheet.specs.Spots.{Run}
+use Rattle.sheet.specs.declared.spot.Rest.{Rest}
+use Rattle.sheet.specs.Trees.{Seen}
+use Rattle.sheet.specs.Inputs.{next_tree}
 use Rattle.sheet.proofs.Lines.{line, group_line}
-use Rattle.sheet.proofs.Runs.{run_part}
+use Rattle.sheet.specs.Spots.{Run}
+use Rattle.sheet.proofs.Runs.{run_part, few_records}
 use Rattle.content.specs.Levels.{Inside, Levels}
 
 pub sheet_kept : (s : Sheet) → Kept limits (held s)
 sheet_kept s = kept_rules limits (held s) s.lawful
 
 pub few : (h : Parts) → Kept limits h → length h.records ≤ 1024
-few h k = let sizes = k.sizes in grind (arith, nat_tests)
+few h k = few_records h (rules_kept limits h k)
 
 pub tail_run : (h : Parts) (p q e : ℕ) → p ≤ q → q ≤ e → Run h p e → Run h q e
 tail_run h p q e low high run = run_part h p e q e run low high (omega arith)
@@ -40,6 +42,12 @@ unfolding Levels
 some_levels zero h p e l lt = omega arith
 some_levels (suc n) h p e l lt = omega arith
 
+pub tree_levels : (n : ℕ) (h : Parts) (r : Rest) (s : Seen) → Levels n h r.from r.to → Some s ≡ next_tree h r → 1 ≤ n
+tree_levels n h r s l is = ⊎_elim
+    (λ (lt : r.from < r.to). some_levels n h r.from r.to l lt)
+    (λ (ge : r.to ≤ r.from). absurd (let none = rw (le-ltb r.from r.to ge) at is in cc))
+    (cases_lt r.from r.to)
+
 pub body_levels : (n : ℕ) (h : Parts) (p e : ℕ) (g : Group) → Levels n h p e → p < e → tokens.Group g ≡ token h p → Levels (n - 1) h g.first (g.first + g.count)
 unfolding Levels
 body_levels zero h p e g l lt is = absurd (omega arith)
@@ -52,14 +60,6 @@ module _ (h : Parts) (k : Kept limits h) where
   as_group : (i : ℕ) (g : Group) → i < length h.records → tokens.Group g ≡ token h i → (group (entry h.records i) ≡ true) × (g.first ≡ (entry h.records i).a) × (g.count ≡ (entry h.records i).b)
   unfolding token
   as_group i g lt is = group_line (length h.names) (length h.strings) (entry h.records i) (line h i (rules_kept limits h k) lt) g is
-
-  pub body_run : (i : ℕ) (g : Group) → i < length h.records → tokens.Group g ≡ token h i → Run h g.first (g.first + g.count)
-  body_run i g lt is =
-      let r = as_group i g lt is in
-      record {
-        order = omega arith;
-        within = inr (i, lt, and_from _ _ r.0 (and_from _ _ (le-leb (entry h.records i).a g.first (omega (arith, r.1))) (le-leb (g.first + g.count) ((entry h.records i).a + (entry h.records i).b) (omega (arith, r.1, r.2)))));
-      }
 
   -- a group lies before its body, which ends inside the sheet
   pub body_inside : (i : ℕ) (g : Group) → i < length h.records → tokens.Group g ≡ token h i → (i < g.first) × (g.first + g.count ≤ length h.records)
@@ -121,3 +121,6 @@ module _ (h : Parts) (k : Kept limits h) where
   pub run_levels : (p e : ℕ) → Levels 33 h p e
   unfolding Levels
   run_levels p e = λ i low high. token_levels i
+
+pub sheet_levels : (s : Sheet) (p e : ℕ) → Levels 33 (held s) p e
+sheet_levels s p e = run_levels (held s) (kept_rules limits (held s) s.lawful) p e

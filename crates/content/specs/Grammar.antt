@@ -6,8 +6,8 @@ use Rattle.std.proofs.Math.Bridge.{le_prop}
 use Rattle.std.proofs.Math.Nat.{ℕ_set}
 use Rattle.std.proofs.lemmas.Bool.{lt-ltb, eq-eqb, ne_eqb, eqb-true, eqb-false, and_parts, cond_both}
 use Rattle.layout.specs.Rules.{Parts}
-use Rattle.sheet.specs.declared.token.Delimiter.{Delimiter}
-use Rattle.sheet.specs.declared.token.Delimiter.TheVariants.{Parenthesis, Brace, Bracket, Invisible}
+use Rattle.layout.specs.declared.kind.Delimiter.{Delimiter}
+use Rattle.layout.specs.declared.kind.Delimiter.TheVariants.{Parenthesis, Brace, Bracket, Invisible}
 use Rattle.sheet.specs.declared.token.Token.{Token}
 use Rattle.sheet.specs.declared.token.Token.TheVariants as tokens
 use Rattle.sheet.specs.Tokens.{token}

@@ -1,8 +1,8 @@
 -- The grammar of content by levels, over which the proofs go by induction. Assumes nothing.
 use Rattle.std.specs.Prelude.{◌≡◌, ℕ, zero, suc, ◌+◌, ◌<◌, true}
 use Rattle.layout.specs.Rules.{Parts}
-use Rattle.sheet.specs.declared.token.Delimiter.{Delimiter}
-use Rattle.sheet.specs.declared.token.Delimiter.TheVariants.{Parenthesis, Brace, Bracket, Invisible}
+use Rattle.layout.specs.declared.kind.Delimiter.{Delimiter}
+use Rattle.layout.specs.declared.kind.Delimiter.TheVariants.{Parenthesis, Brace, Bracket, Invisible}
 use Rattle.sheet.specs.declared.token.Punct.{Punct}
 use Rattle.sheet.specs.declared.token.Group.{Group}
 use Rattle.sheet.specs.declared.token.Token.{Token}

@@ -4,8 +4,8 @@ use Rattle.std.proofs.Math.Path.{refl}
 use Rattle.std.proofs.Common.{sym, ap, subst, ◌∙◌, arith}
 use Rattle.std.proofs.lemmas.Bool.{and_parts, lt-ltb, le-ltb, ltb-true, eqb-false, cond_both}
 use Rattle.layout.specs.Rules.{Parts, limits, Kept}
-use Rattle.sheet.specs.declared.token.Delimiter.{Delimiter}
-use Rattle.sheet.specs.declared.token.Delimiter.TheVariants.{Parenthesis, Brace, Bracket, Invisible}
+use Rattle.layout.specs.declared.kind.Delimiter.{Delimiter}
+use Rattle.layout.specs.declared.kind.Delimiter.TheVariants.{Parenthesis, Brace, Bracket, Invisible}
 use Rattle.sheet.specs.declared.token.Literal.{Literal}
 use Rattle.sheet.specs.declared.token.Literal.TheVariants as literals
 use Rattle.sheet.specs.declared.token.Token.{Token}
@@ -73,6 +73,10 @@ name_is h p k o v t is_t is_v is_o is = one_is t v is_t ∙ ap (λ (x : Datum). 
 
 abbrev pub literal_then : Answer Datum → Answer (Taken Datum)
 literal_then r = r then (λ v. taken 1 v)
+
+-- where a token is left, it does not matter what was passed before
+pub content_any : (n : ℕ) (h : Parts) (p e : ℕ) → Levels n h p e → p < e → (last before : Option ℕ) → content n h p e last ≡ content n h p e before
+content_any n h p e l lt last before = content_at n h p e last l lt (token h p) refl ∙ sym (content_at n h p e before l lt (token h p) refl)
 
 -- HOW MUCH IS TAKEN
 counts : {X V : Type 0} (p e n : ℕ) (f : X → V) → 0 < n → p + n ≤ e → (r : Answer X) → Oks {X = Taken V} (In p e) (r then (λ x. taken n (f x)))

@@ -2,8 +2,8 @@
 use Rattle.std.specs.Prelude.{◌≡◌, ℕ, ◌+◌, ◌^◌, ◌<◌, ◌≤◌, Bool, true, pos, neg_ℤ, Some, ◌≢◌, bit_or}
 use Rattle.layout.specs.Rules.{Parts}
 use Rattle.sheet.specs.declared.text.Pool.TheVariants.{Names, Strings}
-use Rattle.sheet.specs.declared.token.Delimiter.{Delimiter}
-use Rattle.sheet.specs.declared.token.Delimiter.TheVariants.{Parenthesis, Brace, Bracket, Invisible}
+use Rattle.layout.specs.declared.kind.Delimiter.{Delimiter}
+use Rattle.layout.specs.declared.kind.Delimiter.TheVariants.{Parenthesis, Brace, Bracket, Invisible}
 use Rattle.sheet.specs.declared.token.Part.{Part}
 use Rattle.sheet.specs.declared.token.Punct.{Punct}
 use Rattle.sheet.specs.declared.token.Integer.{Integer}

@@ -3,7 +3,7 @@ use Rattle.std.specs.Prelude.{◌≡◌, ℕ, zero, suc, ◌+◌, ◌-◌, ◌<�
 use Rattle.std.proofs.Math.Path.{sym, ap}
 use Rattle.std.proofs.Common.{◌∙◌, arith}
 use Rattle.layout.specs.Rules.{Parts, limits, Kept}
-use Rattle.sheet.specs.declared.token.Delimiter.{Delimiter}
+use Rattle.layout.specs.declared.kind.Delimiter.{Delimiter}
 use Rattle.sheet.specs.declared.token.Token.{Token}
 use Rattle.sheet.specs.Tokens.{token}
 use Rattle.token_de.specs.declared.seed.Taken.{Taken}

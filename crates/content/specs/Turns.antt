@@ -25,7 +25,7 @@ pub record Turn {V : Type 0} (h : Parts) (m : Reads V) (first p e n : ℕ) : Typ
 
 module _ {V : Type 0} (h : Parts) (m : Reads V) (first : ℕ) where
   -- one turn of `items`
-  turn : (k p e n : ℕ) → p < e → e - p ≤ k → items h m k first p e n ≡ m p e (passed first p) then (λ t. after h (p + t.count) e then (λ q. items h m (k - 1) first q e (n + 1)))
+  pub turn : (k p e n : ℕ) → p < e → e - p ≤ k → items h m k first p e n ≡ m p e (passed first p) then (λ t. after h (p + t.count) e then (λ q. items h m (k - 1) first q e (n + 1)))
   turn zero p e n lt enough = absurd (omega arith)
   turn (suc k) p e n lt enough = rw (lt-ltb p e lt) (let z : suc k - 1 ≡ k = omega arith in rw z)
 

@@ -5,8 +5,7 @@ ghost use Rattle.content.specs.TreesLemmas.{any_exact};
 
 use crate::content::content;
 use crate::datum::Datum;
-use sheet::sheet::Sheet;
-use sheet::spot::Rest;
+use sheet::input::Input;
 use token_de::fault::Fault;
 use token_de::seed::{Seed, Taken, Words};
 
@@ -24,8 +23,9 @@ impl Seed for AnyContent {
 
     ghost lawful = { λ _. content_lawful 33 };
 
-    fn read(&self, sheet: &Sheet, rest: Rest) -> Result<Taken<Datum>, Fault> {
-        content(sheet, rest, LEVELS)
+    #[tactic(auto, using(crate::specs::Depths::sheet_levels))]
+    fn read(&self, input: &Input) -> Result<Taken<Datum>, Fault> {
+        content(input, LEVELS)
     }
 }
 

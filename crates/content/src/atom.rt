@@ -1,101 +1,72 @@
-// The values of single tokens, and of a `-` and a number.
-ghost use Rattle.std.specs.Prelude.{◌≡◌, ◌+◌, ◌^◌, ◌<◌, ◌≤◌, length, pos, neg_ℤ};
+// Content that is no group: a text, another literal, or a `-` and a number.
+ghost use Rattle.std.specs.Prelude.{◌≡◌};
 ghost use Rattle.sheet.specs.Sheets.{held};
-ghost use Rattle.sheet.specs.Tokens.{token};
-ghost use Rattle.scalar.specs.Bools.{bool_of};
-ghost use Rattle.content.specs.Contents.{named, literal_value, negated, from_punct};
+ghost use Rattle.token_de.specs.Meaning.{on};
+ghost use Rattle.token_de.specs.Steps.{◌then◌};
+ghost use Rattle.scalar.specs.Texts.{string_read};
+ghost use Rattle.content.specs.Contents.{taken, text_value, literal_value, negated, from_punct};
 
-use crate::body::token_at;
 use crate::datum::Datum;
-use scalar::bool::spelled;
-use scalar::text::TextPart;
-use sheet::sheet::Sheet;
-use sheet::text::Pool;
-use sheet::token::{Literal, Part, Punct, Token};
-use sheet::tree::Tree;
+use scalar::float::with_sign;
+use scalar::number::Numeral;
+use scalar::signed::Signed;
+use scalar::text::Str;
+use sheet::input::Input;
+use sheet::token::{Literal, Punct, Token};
 use token_de::fault::{Fault, Wanted};
-use token_de::seed::Taken;
+use token_de::seed::{Seed, Taken};
 
-const SIGN: u64 = 0x8000_0000_0000_0000;
-
-// The truth value that the name at `at` spells, if it does.
-pub(crate) fn truth_at(sheet: &Sheet, at: usize) -> Option<bool>
-    requires { at < length (held sheet.now).records }
-    ensures { result ≡ bool_of (held sheet.now) (token (held sheet.now) at) }
+// A name or a string, as a text.
+pub(crate) fn text(input: &Input) -> Result<Taken<Datum>, Fault>
+    ensures { result ≡ (on string_read input.now then text_value) }
 {
-    let Some(Tree::Ident(name)) = sheet.tree(at) else {
-        return None;
+    let Taken { count, value } = Str.read(input)?;
+    Ok(Taken {
+        count,
+        value: Datum::Text(value),
+    })
+}
+
+// The word that the next token is, a literal.
+pub(crate) fn from_literal(input: &Input, literal: Literal) -> Result<Taken<Datum>, Fault>
+    ensures { result ≡ (literal_value literal input.now.rest.from then taken 1) }
+{
+    let value = match literal {
+        Literal::Char(c) => Datum::Char(c),
+        Literal::Integer(integer) => {
+            let wrong = Fault::wrong(Wanted::ContentInteger, input);
+            Datum::Unsigned(integer.magnitude.ok_or(wrong)?)
+        }
+        Literal::Float(bits) => Datum::Float(bits),
+        _ => return Err(Fault::Unreadable(input.rest().from)),
     };
-    spelled(name)
+    Ok(Taken::one(value))
 }
 
-// The value of a name: the truth value that it spells, else its text.
-pub(crate) fn named(truth: Option<bool>, part: Part) -> Datum
-    ensures { result ≡ named truth part }
-{
-    match truth {
-        Some(value) => Datum::Bool(value),
-        None => Datum::Text(TextPart {
-            pool: Pool::Names,
-            start: part.start,
-            len: part.len,
-        }),
-    }
-}
-
-// The value of a literal at `at`.
-pub(crate) fn literal_value(literal: Literal, at: usize) -> Result<Datum, Fault>
-    ensures { result ≡ literal_value literal at }
-{
-    match literal {
-        Literal::Char(c) => Ok(Datum::Char(c)),
-        Literal::Integer(integer) => match integer.magnitude {
-            Some(magnitude) => Ok(Datum::Unsigned(magnitude)),
-            None => Err(Fault::Wrong(Wanted::ContentInteger, at)),
-        },
-        Literal::Float(bits) => Ok(Datum::Float(bits)),
-        _ => Err(Fault::Unreadable(at)),
-    }
-}
-
-fn negative(magnitude: u64) -> i64
-    requires { magnitude ≤ 2 ^ 63 }
-    ensures { result ≡ neg_ℤ (pos magnitude) }
-{
-    if magnitude == 1 << 63 {
-        i64::MIN
-    } else {
-        -(magnitude as i64)
-    }
-}
-
-// The value of a token behind a `-` at `at`.
-fn negated(token: Token, at: usize) -> Result<Datum, Fault>
-    ensures { result ≡ negated token at }
+// The value of the token behind the next one, a `-`.
+fn negated(token: Token, input: &Input) -> Result<Datum, Fault>
+    ensures { result ≡ negated token input.now.rest.from }
 {
     match token {
-        Token::Literal(Literal::Float(bits)) => Ok(Datum::Float(bits | SIGN)),
-        Token::Literal(Literal::Integer(integer)) => match integer.magnitude {
-            Some(magnitude) if magnitude <= 1 << 63 => Ok(Datum::Signed(negative(magnitude))),
-            _ => Err(Fault::Wrong(Wanted::ContentInteger, at)),
-        },
-        _ => Err(Fault::Wrong(Wanted::Content, at)),
+        Token::Literal(Literal::Float(bits)) => Ok(Datum::Float(with_sign(bits))),
+        Token::Literal(Literal::Integer(_)) => {
+            let wrong = Fault::wrong(Wanted::ContentInteger, input);
+            let value = Signed::I64.value_of(true, token).ok_or(wrong)?;
+            Ok(Datum::Signed(value))
+        }
+        _ => Err(Fault::wrong(Wanted::Content, input)),
     }
 }
 
-// The word that begins with a punct at `at`, in a run that ends at `to`.
-pub(crate) fn from_punct(
-    sheet: &Sheet,
-    at: usize,
-    to: usize,
-    punct: Punct,
-) -> Result<Taken<Datum>, Fault>
-    requires { (at < to) × (to ≤ length (held sheet.now).records) }
-    ensures { result ≡ from_punct (held sheet.now) at to punct }
+// The word that begins with the next token, a punct.
+pub(crate) fn from_punct(input: &Input, punct: Punct) -> Result<Taken<Datum>, Fault>
+    ensures { result ≡ from_punct (held input.now.sheet) input.now.rest.from input.now.rest.to punct }
 {
-    if punct == Punct::MINUS && at + 1 < to {
-        let value = negated(token_at(sheet, at + 1), at)?;
-        return Ok(Taken { count: 2, value });
+    match input.past(1).token() {
+        Some(token) if punct == Punct::MINUS => {
+            let value = negated(token, input)?;
+            Ok(Taken { count: 2, value })
+        }
+        _ => Err(Fault::wrong(Wanted::Content, input)),
     }
-    Err(Fault::Wrong(Wanted::Content, at))
 }

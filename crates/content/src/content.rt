@@ -1,143 +1,107 @@
 // Content, its lists and its members. Each level of groups costs one of `depth`, so a read ends.
-ghost use Rattle.std.specs.Prelude.{◌≡◌, ◌+◌};
+ghost use Rattle.std.specs.Prelude.{◌≡◌, ◌-◌};
 ghost use Rattle.sheet.specs.Sheets.{held};
-ghost use Rattle.sheet.specs.Spots.{Run};
+ghost use Rattle.token_de.specs.Meaning.{on};
 ghost use Rattle.content.specs.Levels.{Levels};
-ghost use Rattle.content.specs.Bodies.{body, entry};
+ghost use Rattle.content.specs.Bodies.{body as words, entry};
 ghost use Rattle.content.specs.Contents.{content as meant, from_group};
 
-use crate::atom::{from_punct, literal_value, named, truth_at};
-use crate::body::{at_equals, last_passed, past_comma, token_at};
+use crate::atom::{from_literal, from_punct, text};
+use crate::body::alone;
 use crate::datum::{Counted, Datum};
-use scalar::text::TextPart;
-use sheet::sheet::Sheet;
-use sheet::spot::Rest;
-use sheet::text::Pool;
-use sheet::token::{Delimiter, Group, Token};
+use scalar::bool::spelled;
+use sheet::input::Input;
+use sheet::spot::Spot;
+use sheet::token::Delimiter;
+use sheet::tree::Tree;
 use token_de::fault::{Fault, Wanted};
 use token_de::seed::Taken;
-
-fn one(value: Datum) -> Taken<Datum>
-    ensures { result ≡ record { count = 1; value = value } }
-{
-    Taken { count: 1, value }
-}
+use token_de::separators::{past_comma, past_equals};
 
 // One content word, of at most `depth` levels.
-#[tactic(auto, using(crate::specs::Depths::some_levels))]
+#[tactic(auto, using(crate::specs::Depths::tree_levels, crate::proofs::Seen::each_tree))]
 #[cycle(content_content_group_content_list_content_members)]
-pub(crate) fn content(sheet: &Sheet, rest: Rest, depth: usize) -> Result<Taken<Datum>, Fault>
-    requires run { Run (held sheet.now) rest.from rest.to }
-    requires levels { Levels depth (held sheet.now) rest.from rest.to }
-    ensures { result ≡ meant depth (held sheet.now) rest.from rest.to rest.last }
+pub(crate) fn content(input: &Input, depth: usize) -> Result<Taken<Datum>, Fault>
+    requires { Levels depth (held input.now.sheet) input.now.rest.from input.now.rest.to }
+    ensures { result ≡ on (meant depth) input.now }
 {
-    let at = rest.from;
-    if at >= rest.to {
-        return Err(Fault::Ended(Wanted::Content, rest.last.unwrap_or(0)));
-    }
-    match token_at(sheet, at) {
-        Token::Ident(part) => Ok(one(named(truth_at(sheet, at), part))),
-        Token::String(part) => Ok(one(Datum::Text(TextPart {
-            pool: Pool::Strings,
-            start: part.start,
-            len: part.len,
-        }))),
-        Token::Punct(punct) => from_punct(sheet, at, rest.to, punct),
-        Token::Literal(literal) => {
-            let value = literal_value(literal, at)?;
-            Ok(one(value))
+    match input.tree() {
+        Some(Tree::Ident(name)) => match spelled(name) {
+            Some(value) => Ok(Taken::one(Datum::Bool(value))),
+            None => text(input),
+        },
+        Some(Tree::String(_)) => text(input),
+        Some(Tree::Punct(punct)) => from_punct(input, punct),
+        Some(Tree::Literal(literal)) => from_literal(input, literal),
+        Some(Tree::Group(delimiter, body)) => {
+            let inside = input.sheet().input(Spot::within(body));
+            content_group(body.parent(), delimiter, &inside, depth - 1)
         }
-        Token::Group(group) => content_group(sheet, at, group, depth - 1),
+        None => Err(Fault::ended(Wanted::Content, input)),
     }
 }
 
-// The word that the group at `at` is, with at most `depth` levels in it.
+// The word that a group at `at` is, with at most `depth` levels in it.
+#[tactic(auto, using(crate::proofs::Loops::one_alone))]
 #[cycle(content_content_group_content_list_content_members)]
 fn content_group(
-    sheet: &Sheet,
     at: usize,
-    group: Group,
+    delimiter: Delimiter,
+    body: &Input,
     depth: usize,
 ) -> Result<Taken<Datum>, Fault>
-    requires run { Run (held sheet.now) group.first (group.first + group.count) }
-    requires levels { Levels depth (held sheet.now) group.first (group.first + group.count) }
-    ensures { result ≡ from_group (held sheet.now) (meant depth (held sheet.now)) at group.first group.count group.delimiter }
+    requires { Levels depth (held body.now.sheet) body.now.rest.from body.now.rest.to }
+    ensures { result ≡ from_group (held body.now.sheet) (meant depth (held body.now.sheet)) at body.now.rest.from (body.now.rest.to - body.now.rest.from) delimiter }
 {
-    let first = group.first;
-    let to = first + group.count;
-    match group.delimiter {
-        Delimiter::Parenthesis if group.count == 0 => Ok(one(Datum::Empty)),
+    let is_empty = body.token().is_none();
+    match delimiter {
+        Delimiter::Parenthesis if is_empty => Ok(Taken::one(Datum::Empty)),
         Delimiter::Parenthesis | Delimiter::Bracket => {
-            let count = content_list(sheet, first, to, depth)?;
-            Ok(one(Datum::List(Counted { group: at, count })))
+            let count = content_list(body, depth)?;
+            Ok(Taken::one(Datum::List(Counted { group: at, count })))
         }
         Delimiter::Brace => {
-            let count = content_members(sheet, first, to, depth)?;
-            Ok(one(Datum::Map(Counted { group: at, count })))
+            let count = content_members(body, depth)?;
+            Ok(Taken::one(Datum::Map(Counted { group: at, count })))
         }
-        Delimiter::Invisible if group.count == 0 => Err(Fault::Empty(at)),
+        Delimiter::Invisible if is_empty => Err(Fault::Empty(at)),
         Delimiter::Invisible => {
-            let inside = Rest {
-                from: first,
-                to,
-                last: None,
-            };
-            let word = content(sheet, inside, depth)?;
-            if word.count == group.count {
-                Ok(one(word.value))
-            } else {
-                Err(Fault::Leftover(first + word.count))
-            }
+            let word = content(body, depth)?;
+            alone(word, body)
         }
     }
 }
 
 // How many words a list body of content has.
 #[cycle(content_content_group_content_list_content_members)]
-fn content_list(sheet: &Sheet, first: usize, to: usize, depth: usize) -> Result<usize, Fault>
-    requires run { Run (held sheet.now) first to }
-    requires levels { Levels depth (held sheet.now) first to }
-    ensures { result ≡ body (held sheet.now) (meant depth (held sheet.now)) first to }
+fn content_list(body: &Input, depth: usize) -> Result<usize, Fault>
+    requires { Levels depth (held body.now.sheet) body.now.rest.from body.now.rest.to }
+    ensures { result ≡ words (held body.now.sheet) (meant depth (held body.now.sheet)) body.now.rest.from body.now.rest.to }
 {
-    let mut place = first;
+    let mut left = *body;
     let mut count = 0;
-    while place < to {
-        let rest = Rest {
-            from: place,
-            to,
-            last: last_passed(first, place),
-        };
-        let word = content(sheet, rest, depth)?;
-        place = past_comma(sheet, place + word.count, to)?;
+    while left.token().is_some() {
+        let word = content(&left, depth)?;
+        left = past_comma(&left.past(word.count))?;
         count += 1;
     }
     Ok(count)
 }
 
-// How many entries a member body of content and content has.
+// How many entries a member body of content and content has. A loop shared with lists would take its step as a
+// closure that calls back into this cycle, and the clauses of that are longer than the loop.
 #[cycle(content_content_group_content_list_content_members)]
-fn content_members(sheet: &Sheet, first: usize, to: usize, depth: usize) -> Result<usize, Fault>
-    requires run { Run (held sheet.now) first to }
-    requires levels { Levels depth (held sheet.now) first to }
-    ensures { result ≡ body (held sheet.now) (entry (held sheet.now) (meant depth (held sheet.now)) (meant depth (held sheet.now))) first to }
+fn content_members(body: &Input, depth: usize) -> Result<usize, Fault>
+    requires { Levels depth (held body.now.sheet) body.now.rest.from body.now.rest.to }
+    ensures { result ≡ words (held body.now.sheet) (entry (held body.now.sheet) (meant depth (held body.now.sheet)) (meant depth (held body.now.sheet))) body.now.rest.from body.now.rest.to }
 {
-    let mut place = first;
+    let mut left = *body;
     let mut count = 0;
-    while place < to {
-        let at_key = Rest {
-            from: place,
-            to,
-            last: last_passed(first, place),
-        };
-        let key = content(sheet, at_key, depth)?;
-        let equals = at_equals(sheet, place, place + key.count, to)?;
-        let at_value = Rest {
-            from: equals + 1,
-            to,
-            last: Some(equals),
-        };
-        let value = content(sheet, at_value, depth)?;
-        place = past_comma(sheet, equals + 1 + value.count, to)?;
+    while left.token().is_some() {
+        let key = content(&left, depth)?;
+        let value_on = past_equals(&left, key.count)?;
+        let value = content(&value_on, depth)?;
+        left = past_comma(&value_on.past(value.count))?;
         count += 1;
     }
     Ok(count)

@@ -3,8 +3,7 @@ ghost use Rattle.content.specs.Trees.{IgnoredWord};
 ghost use Rattle.content.specs.PassedOver.{ignored_lawful, ignored_exact};
 
 use crate::any::AnyContent;
-use sheet::sheet::Sheet;
-use sheet::spot::Rest;
+use sheet::input::Input;
 use token_de::fault::Fault;
 use token_de::seed::{Seed, Taken, Words};
 
@@ -19,8 +18,8 @@ impl Seed for IgnoredAny {
 
     ghost lawful = { λ _. ignored_lawful };
 
-    fn read(&self, sheet: &Sheet, rest: Rest) -> Result<Taken<()>, Fault> {
-        let word = AnyContent.read(sheet, rest)?;
+    fn read(&self, input: &Input) -> Result<Taken<()>, Fault> {
+        let word = AnyContent.read(input)?;
         Ok(Taken {
             count: word.count,
             value: (),

@@ -1,13 +1,14 @@
 ghost use Rattle.std.specs.Prelude.{◌≡◌};
 ghost use Rattle.sheet.specs.Sheets.{held};
-ghost use Rattle.entries.specs.Entries.{asks, reads, key_told, value_told, finish_told, read_whole};
+ghost use Rattle.entries.specs.Entries.{caller, told_key, told_value, read_whole};
 
 use access::drive::calls::{Caller, drive};
-use access::drive::{Heard, KeyMove, Talk, ValueMove};
+use access::drive::{KeyMove, Talk};
 use access::map_access::KeyTurn;
 use scalar::text::{Identifier, Str, TextPart};
 use sheet::sheet::Sheet;
 use sheet::spot::Body;
+use token_de::fault::Fault;
 
 // Reads entries of a name and a text while there are any, then finishes. It stops at the first refusal.
 #[derive(Clone, Copy)]
@@ -18,51 +19,43 @@ pub enum Entries {
 }
 
 impl Caller<Identifier, Str> for Entries {
-    ghost asks = { asks };
+    ghost model = { caller };
 
-    ghost reads = { reads };
-
-    ghost key_told = { key_told };
-
-    ghost value_told = { value_told };
-
-    ghost finish_told = { finish_told };
-
-    fn at_key(&mut self) -> KeyMove<Identifier> {
-        match *self {
+    fn at_key(&self) -> KeyMove<Identifier> {
+        match self {
             Entries::Reading => KeyMove::Read(Identifier),
             Entries::Ended => KeyMove::Finish,
             Entries::Stopped => KeyMove::Stop,
         }
     }
 
-    fn at_value(&mut self) -> ValueMove<Str> {
-        match *self {
-            Entries::Reading => ValueMove::Read(Str),
-            _ => ValueMove::Stop,
+    fn at_value(&self) -> Option<Str> {
+        match self {
+            Entries::Reading => Some(Str),
+            _ => None,
         }
     }
 
-    fn hear_key(&mut self, answer: Heard<TextPart>)
-        ensures { self.new ≡ key_told self.old answer }
+    fn hear_key(&mut self, answer: Result<Option<TextPart>, Fault>)
+        ensures { self.new ≡ told_key self.old answer }
     {
         *self = match answer {
-            Heard::None => Entries::Ended,
-            Heard::Accepted(_) => Entries::Reading,
-            Heard::Refused(_) => Entries::Stopped,
+            Ok(Some(_)) => Entries::Reading,
+            Ok(None) => Entries::Ended,
+            Err(_) => Entries::Stopped,
         };
     }
 
-    fn hear_value(&mut self, answer: Heard<TextPart>)
-        ensures { self.new ≡ value_told self.old answer }
+    fn hear_value(&mut self, answer: Result<TextPart, Fault>)
+        ensures { self.new ≡ told_value self.old answer }
     {
         *self = match answer {
-            Heard::Accepted(_) => Entries::Reading,
-            _ => Entries::Stopped,
+            Ok(_) => Entries::Reading,
+            Err(_) => Entries::Stopped,
         };
     }
 
-    fn hear_finish(&mut self, _answer: Heard<()>) {
+    fn hear_finish(&mut self, _answer: Result<(), Fault>) {
         *self = Entries::Stopped;
     }
 }
@@ -73,8 +66,9 @@ pub fn read_whole(sheet: &Sheet, body: Body) -> bool
     ensures { result ≡ read_whole (held sheet.now) body }
 {
     let mut caller = Entries::Reading;
-    match drive(&mut caller, KeyTurn::within(body), sheet, sheet.count() + 2) {
-        Talk::Over(_) => true,
-        _ => false,
-    }
+    let turns = sheet.count() + 2;
+    matches!(
+        drive(&mut caller, KeyTurn::within(body), sheet, turns),
+        Talk::Over(_)
+    )
 }

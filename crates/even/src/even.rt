@@ -2,17 +2,16 @@ ghost use Rattle.even.specs.Evens.{even_read};
 ghost use Rattle.even.specs.EvenLemmas.{even_lawful};
 
 use scalar::integer::magnitude_of;
-use sheet::sheet::Sheet;
-use sheet::spot::Rest;
+use sheet::input::Input;
 use token_de::fault::{DataFault, Fault, Wanted};
-use token_de::seed::{Seed, Taken, next_token};
+use token_de::seed::{Seed, Taken, first_token};
 
 // An even integer: one integer literal that fits 64 bits. An odd one is a data fault.
 #[derive(Clone, Copy)]
 pub struct Even;
 
-// The number of this seed's data fault.
-const ODD: u8 = 100;
+// This seed's data fault.
+const ODD: DataFault = DataFault::Custom(100);
 
 impl Seed for Even {
     type Value = u64;
@@ -21,13 +20,13 @@ impl Seed for Even {
 
     ghost lawful = { λ _. even_lawful };
 
-    fn read(&self, sheet: &Sheet, rest: Rest) -> Result<Taken<u64>, Fault> {
-        let token = next_token(sheet, rest, Wanted::Unsigned)?;
-        let value = magnitude_of(token).ok_or(Fault::Wrong(Wanted::Unsigned, rest.from))?;
+    fn read(&self, input: &Input) -> Result<Taken<u64>, Fault> {
+        let token = first_token(input, Wanted::Unsigned)?;
+        let value = magnitude_of(token).ok_or(Fault::wrong(Wanted::Unsigned, input))?;
         if value % 2 == 0 {
-            Ok(Taken { count: 1, value })
+            Ok(Taken::one(value))
         } else {
-            Err(Fault::Data(DataFault::Custom(ODD), 0))
+            Err(Fault::Data(ODD, 0))
         }
     }
 }

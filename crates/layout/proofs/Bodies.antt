@@ -1,6 +1,7 @@
 -- Bodies lie in order: they do not overlap, and each record before their end is in one. Assumes nothing.
 use Rattle.std.proofs.Common.{◌≡◌, ℕ, zero, suc, ◌+◌, ◌<◌, ◌≤◌, true, List, sym, subst, ⊎_elim, arith}
-use Rattle.std.proofs.lemmas.Bool.{cond-true, cond-false, cond_both, cases_lt, cases_Bool}
+use Rattle.std.proofs.lemmas.Bool.{cases_lt}
+use Rattle.std.proofs.lemmas.Bool.Decides.{nat_tests}
 use Rattle.layout.specs.declared.record.Record.{Record}
 use Rattle.layout.specs.Rules.{entry, group, bodies_end, InBody, Placed}
 
@@ -10,10 +11,10 @@ module _ (rs : List Record) where
   Before i = (j : ℕ) → j < i → Placed rs j
 
   pub end_of : (g : ℕ) → group (entry rs g) ≡ true → bodies_end rs (suc g) ≡ (entry rs g).a + (entry rs g).b
-  end_of g is = cond-true (group (entry rs g)) _ _ is
+  end_of g is = grind (arith, nat_tests)
 
   next_end : (i : ℕ) → Placed rs i → bodies_end rs i ≤ bodies_end rs (suc i)
-  next_end i p = cond_both (group (entry rs i)) _ _ (λ x. bodies_end rs i ≤ x) (λ g. omega (arith, (p.body g).0)) (λ _. omega arith)
+  next_end i p = let body = p.body in grind (arith, nat_tests)
 
   -- the ends do not fall
   pub ends_rise : (i j : ℕ) → i ≤ j → Before j → bodies_end rs i ≤ bodies_end rs j
@@ -27,12 +28,11 @@ module _ (rs : List Record) where
   pub body_found : (i m : ℕ) → 0 < i → m ≤ i → Before m → i < bodies_end rs m → (g : ℕ) × InBody rs g i
   body_found i zero pos le ok lt = absurd (omega arith)
   body_found i (suc m) pos le ok lt = ⊎_elim
-      (λ is. ⊎_elim
       (λ (l : i < bodies_end rs m). body_found i m pos (omega arith) (λ x h. ok x (omega arith)) l)
-      (λ (u : bodies_end rs m ≤ i). (m, record { earlier = omega arith; is_group = is; from = omega (arith, ((ok m (omega arith)).body is).0); upto = omega (arith, end_of m is) }))
-      (cases_lt i (bodies_end rs m)))
-      (λ no_group. body_found i m pos (omega arith) (λ x h. ok x (omega arith)) (omega (arith, cond-false (group (entry rs m)) ((entry rs m).a + (entry rs m).b) (bodies_end rs m) no_group)))
-      (cases_Bool (group (entry rs m)))
+      (λ (u : bodies_end rs m ≤ i).
+      let body = (ok m (omega arith)).body in
+      (m, record { earlier = omega arith; is_group = grind (arith, nat_tests); from = grind (arith, nat_tests); upto = grind (arith, nat_tests) }))
+      (cases_lt i (bodies_end rs m))
 
   -- and a record in a body is before their end
   pub inside_end : (i g : ℕ) → InBody rs g i → Before i → i < bodies_end rs i

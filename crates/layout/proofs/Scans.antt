@@ -1,14 +1,15 @@
 -- One pass over the records finds the first that breaks a rule. Assumes nothing.
-use Rattle.std.proofs.Common.{◌≡◌, ℕ, zero, suc, ◌+◌, ◌<◌, ◌≤◌, Bool, true, false, cond, ◌&&◌, eqb, ltb, leb, List, ◌∷◌, length, drop, Some, None, Option, sym, refl, ap, ◌∙◌, subst, ⊎_elim, add-one, arith, drop-cons, below_more}
+use Rattle.std.proofs.Common.{◌≡◌, ℕ, zero, suc, ◌+◌, ◌<◌, ◌≤◌, Bool, true, false, cond, eqb, leb, List, length, drop, Some, None, Option, sym, refl, ap, ◌∙◌, subst, ⊎_elim, add-one, arith, drop-cons, below_more}
 use Rattle.std.proofs.lemmas.List.{drop_all}
-use Rattle.std.proofs.lemmas.Bool.{leb-true, leb-false, ltb-true, eqb-true, eqb-false, le-leb, lt-ltb, eq-eqb, ne_eqb, and_parts, and_from, cond-true, cond-false, cond_both, cases_lt, cases_Bool, both_ways}
+use Rattle.std.proofs.lemmas.Bool.{leb-true, leb-false, eqb-true, eqb-false, and_parts, and_from, cases_lt, cases_eq, cases_Bool, both_ways}
+use Rattle.std.proofs.lemmas.Bool.Decides.{nat_tests}
 use Rattle.layout.specs.declared.record.Record.{Record}
 use Rattle.layout.specs.declared.limits.Limits.{Limits}
 use Rattle.layout.specs.declared.fault.LoadFault.{LoadFault}
 use Rattle.layout.specs.declared.fault.LoadFault.TheVariants.{Short, OutOfRange, WrongLength, OffLine, Misplaced, TooDeep, SmallTable}
 use Rattle.layout.specs.declared.rules.Track.{Track}
 use Rattle.layout.specs.Rules.{Parts, no_record, sized, entry, group, lined, bodies_end, Placed, Ruled, Kept, FirstBreak}
-use Rattle.layout.specs.Scan.{start, fitting, level_at, along, fault_of, or_later, scan, first_fault, faultless, kept}
+use Rattle.layout.specs.Scan.{start, fitting, level_at, along, or_later, scan, first_fault, faultless, kept}
 use Rattle.layout.proofs.Bodies.{Before, ends_rise, body_found, inside_end}
 use Rattle.layout.proofs.Depths.{Only, Above, root, upper, Level, depth_here}
 
@@ -73,27 +74,22 @@ module _ (l m most : ℕ) (rs : List Record) where
       }
 
   fitting_placed : (i : ℕ) (t : Track) → Known i t → fitting (length rs) i t.next (entry rs i) ≡ true → Placed rs i
-  fitting_placed i t k ok =
-      let two = and_parts (cond (eqb i 0) (group (entry rs i) && eqb (entry rs i).sub 1) (ltb i t.next)) _ ok in
-      record {
-        brace = λ z. let b = and_parts (group (entry rs i)) _ (sym (cond-true (eqb i 0) (group (entry rs i) && eqb (entry rs i).sub 1) (ltb i t.next) (eq-eqb i 0 z)) ∙ two.0) in (b.0, eqb-true _ _ b.1);
-        inside = λ pos. body_found rs i i pos (omega arith) (placed_before i t k)
-            (let z : i ≡ 0 → ⊥ = λ e. omega arith in
-            omega (arith, k.next, ltb-true i t.next (sym (cond-false (eqb i 0) (group (entry rs i) && eqb (entry rs i).sub 1) (ltb i t.next) (ne_eqb i 0 z)) ∙ two.0)));
-        body = λ is. let b = and_parts (eqb (entry rs i).a t.next) _ (sym (cond-true (group (entry rs i)) (eqb (entry rs i).a t.next && leb ((entry rs i).a + (entry rs i).b) (length rs)) true is) ∙ two.1) in
-            (eqb-true (entry rs i).a t.next b.0 ∙ k.next, leb-true _ _ b.1);
-      }
+  fitting_placed i t k ok = record {
+    brace = λ z. (grind (arith, nat_tests), grind (arith, nat_tests));
+    inside = λ pos. body_found rs i i pos (omega arith) (placed_before i t k) (let next = k.next in grind (arith, nat_tests));
+    body = λ is. (let next = k.next in grind (arith, nat_tests), grind (arith, nat_tests));
+  }
 
   placed_fitting : (i : ℕ) (t : Track) → Known i t → Placed rs i → fitting (length rs) i t.next (entry rs i) ≡ true
-  placed_fitting i t k p = and_from _ _
-      (cond_both (eqb i 0) _ _ (λ b. b ≡ true)
-      (λ z. let b = p.brace (eqb-true i 0 z) in and_from _ _ b.0 (eq-eqb (entry rs i).sub 1 b.1))
-      (λ z. let ne : i ≡ 0 → ⊥ = eqb-false i 0 z in
+  placed_fitting i t k p = ⊎_elim
+      (λ (z : i ≡ 0). let brace = p.brace z in let body = p.body brace.0 in let next = k.next in grind (arith, nat_tests))
+      (λ (ne : i ≡ 0 → ⊥).
       let b = p.inside (omega arith) in
-      lt-ltb i t.next (omega (arith, k.next, inside_end rs i b.0 b.1 (placed_before i t k)))))
-      (cond_both (group (entry rs i)) _ _ (λ b. b ≡ true)
-      (λ is. let b = p.body is in and_from _ _ (eq-eqb (entry rs i).a t.next (b.0 ∙ sym k.next)) (le-leb ((entry rs i).a + (entry rs i).b) (length rs) b.1))
-      (λ _. refl))
+      let lt = inside_end rs i b.0 b.1 (placed_before i t k) in
+      let next = k.next in
+      let body = p.body in
+      grind (arith, nat_tests))
+      (cases_eq i 0)
 
   -- what the answer of a check tells
   abbrev pub Told : Option LoadFault → Type 0
@@ -140,27 +136,6 @@ module _ (l m most : ℕ) (rs : List Record) where
       go None t = refl
       go (Some f) t = absurd (breaks_no_law f t ok)
 
--- one turn of the pass
-module _ (l m most n i : ℕ) (t : Track) (rs : List Record) (r : Record) (in_range : i < length rs) (is : r ≡ entry rs i) where
-  here : scan l m most n i t (drop i rs) ≡ or_later (fault_of l m most n i t r) (scan l m most n (i + 1) (along i t r) (drop (i + 1) rs))
-  here = ap (scan l m most n i t) (drop-cons rs i no_record in_range ∙ ap (λ (x : Record). x ∷ drop (suc i) rs) (sym is))
-      ∙ ap (λ j. or_later (fault_of l m most n i t r) (scan l m most n (i + 1) (along i t r) (drop j rs))) (sym (add-one i))
-
-  pub scan_stop : (f : LoadFault) → fault_of l m most n i t r ≡ Some f → scan l m most n i t (drop i rs) ≡ Some f
-  scan_stop f e = here ∙ ap (λ o. or_later o (scan l m most n (i + 1) (along i t r) (drop (i + 1) rs))) e
-
-  pub scan_more : fault_of l m most n i t r ≡ None → scan l m most n i t (drop i rs) ≡ scan l m most n (i + 1) (along i t r) (drop (i + 1) rs)
-  scan_more e = here ∙ ap (λ o. or_later o (scan l m most n (i + 1) (along i t r) (drop (i + 1) rs))) e
-
-  pub level_low : fault_of l m most n i t r ≡ None → (along i t r).level ≤ most
-  level_low = go (lined l m r) (fitting n i t.next r) (leb (level_at i t) most) refl
-    where
-      go : (b c d : Bool) → leb (level_at i t) most ≡ d → cond b (cond c (cond d None (Some (TooDeep i))) (Some (Misplaced i))) (Some (OffLine i)) ≡ None → level_at i t ≤ most
-      go true true true low e = leb-true (level_at i t) most low
-      go true true false low e = absurd (let z : ◌≡◌ {A = ℕ} 0 1 = cc in omega arith)
-      go true false d low e = absurd (let z : ◌≡◌ {A = ℕ} 0 1 = cc in omega arith)
-      go false c d low e = absurd (let z : ◌≡◌ {A = ℕ} 0 1 = cc in omega arith)
-
 -- the test of all rules tells whether they are kept
 module _ (lim : Limits) (p : Parts) where
   pub kept_rules : kept lim p ≡ true → Kept lim p
@@ -171,7 +146,7 @@ module _ (lim : Limits) (p : Parts) where
     where
       go : (o : Option LoadFault) → Told (length p.names) (length p.strings) lim.depth p.records o → faultless o ≡ true → (i : ℕ) → i < length p.records → Ruled (length p.names) (length p.strings) lim.depth p.records i
       go None t e = t
-      go (Some f) t e = absurd (let z : ◌≡◌ {A = ℕ} 0 1 = cc in omega arith)
+      go (Some f) t e = cc
 
   pub rules_kept : Kept lim p → kept lim p ≡ true
   unfolding kept

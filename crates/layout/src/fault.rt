@@ -43,9 +43,9 @@ impl LoadFault {
         ensures { result ≡ at self.now }
     {
         match self {
-            LoadFault::OffLine(record) => *record,
-            LoadFault::Misplaced(record) => *record,
-            LoadFault::TooDeep(record) => *record,
+            LoadFault::OffLine(record)
+            | LoadFault::Misplaced(record)
+            | LoadFault::TooDeep(record) => *record,
             _ => 0,
         }
     }

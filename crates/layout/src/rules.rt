@@ -1,43 +1,35 @@
-ghost use Rattle.std.specs.Prelude.{◌≡◌, ℕ, ◌^◌, ◌<◌, ◌≤◌, List, length, MatchResult};
+ghost use Rattle.std.specs.Prelude.{◌≡◌, ℕ, ◌<◌, List, length, MatchResult};
 ghost use Rattle.layout.specs.declared.record.Record.{Record as Entry};
-ghost use Rattle.layout.specs.Rules.{sized, lined, literal, is_punct, is_scalar, is_pattern, part_fits, group, entry, Ruled, FirstBreak};
+ghost use Rattle.layout.specs.Rules.{lined, literal, is_punct, is_scalar, part_fits, group, entry, Ruled, FirstBreak};
 ghost use Rattle.layout.specs.Scan.{fitting, fault_of, along, level_at, first_fault, refusal};
 
 use crate::fault::LoadFault;
-use crate::limits::Limits;
+use crate::kind::{Delimiter, Kind, LiteralKind};
+use crate::limits::Bounds;
 use crate::record::Record;
 
 // The pattern of the f64 above all finite ones.
 const INFINITY: u64 = 0x7ff0_0000_0000_0000;
 
-impl Limits {
-    // Whether so many records, bytes of names and bytes of strings are within the limits.
-    pub fn allow(&self, count: usize, names: usize, strings: usize) -> bool
-        ensures { result ≡ sized self.now count names strings }
-    {
-        1 <= count && count <= self.records && names <= self.names && strings <= self.strings
-    }
-}
-
 // Whether it is the ASCII code of one of the 22 puncts.
+#[tactic(auto, unfolding(crate::specs::Rules::is_punct))]
 pub fn is_punct(code: u8) -> bool
     ensures { result ≡ is_punct code }
 {
-    let puncts: &[u8] = b"=<>!~+-*/%^&|@.,;:#$?'";
-    puncts.contains(&code)
+    b"=<>!~+-*/%^&|@.,;:#$?'".contains(&code)
 }
 
 fn is_scalar(value: u64) -> bool
     ensures { result ≡ is_scalar value }
 {
-    value < 0xd800 || 0xdfff < value && value < 0x110000
+    u32::try_from(value).is_ok_and(|code| char::from_u32(code).is_some())
 }
 
 impl Record {
     pub fn is_group(&self) -> bool
         ensures { result ≡ group self.now }
     {
-        self.kind == 3
+        matches!(Kind::try_from(self.kind), Ok(Kind::Group))
     }
 
     // Whether its text ends inside a pool of so many bytes.
@@ -47,28 +39,34 @@ impl Record {
         self.a as usize + self.b as usize <= pool
     }
 
-    // Whether it is on the line of its kind, with so many bytes of names and strings.
-    fn in_line(&self, names: usize, strings: usize) -> bool
-        ensures { result ≡ lined names strings self.now }
+    // Whether it is on the line of its kind.
+    fn in_line(&self, bounds: Bounds) -> bool
+        ensures { result ≡ lined bounds.names bounds.strings self.now }
     {
-        match self.kind {
-            0 => self.part_fits(names),
-            1 => is_punct(self.sub),
-            2 => self.is_literal(strings),
-            3 => self.sub <= 3,
-            _ => false,
+        match Kind::try_from(self.kind) {
+            Ok(Kind::Ident) => self.part_fits(bounds.names),
+            Ok(Kind::Punct) => is_punct(self.sub),
+            Ok(Kind::Literal) => self.is_literal(bounds.strings),
+            Ok(Kind::Group) => Delimiter::try_from(self.sub).is_ok(),
+            Err(_) => false,
         }
     }
 
     fn is_literal(&self, strings: usize) -> bool
         ensures { result ≡ literal strings self.now }
     {
-        match self.sub {
-            0 => self.part_fits(strings),
-            4 => is_scalar(self.value),
-            5 => self.mark <= 1 && self.bits <= INFINITY,
-            6 => self.bits <= INFINITY,
-            _ => self.sub <= 7,
+        match LiteralKind::try_from(self.sub) {
+            Ok(LiteralKind::String) => self.part_fits(strings),
+            Ok(LiteralKind::Char) => is_scalar(self.value),
+            Ok(LiteralKind::Integer) => self.mark <= 1 && self.bits <= INFINITY,
+            Ok(LiteralKind::Float) => self.bits <= INFINITY,
+            Ok(
+                LiteralKind::ByteString
+                | LiteralKind::CString
+                | LiteralKind::Byte
+                | LiteralKind::Other,
+            ) => true,
+            Err(_) => false,
         }
     }
 
@@ -77,7 +75,7 @@ impl Record {
         ensures { result ≡ fitting count i next self.now }
     {
         let inside = if i == 0 {
-            self.is_group() && self.sub == 1
+            self.is_group() && matches!(Delimiter::try_from(self.sub), Ok(Delimiter::Brace))
         } else {
             i < next
         };
@@ -94,65 +92,53 @@ impl Record {
 #[derive(Clone, Copy)]
 pub struct Track {
     next: usize,
-    level: usize,
+    level: u32,
     upto: usize,
 }
 
 impl Track {
     // The depth of record `i`.
-    fn level_at(&self, i: usize) -> usize
-        requires { self.now.level < 2 ^ 32 }
+    fn level_at(&self, i: usize) -> u64
         ensures { result ≡ level_at i self.now }
     {
         if i == self.upto {
-            self.level + 1
+            u64::from(self.level) + 1
         } else {
-            self.level
+            u64::from(self.level)
         }
     }
 
-    // The track behind record `i`.
-    fn along(&self, i: usize, record: &Record) -> Track
-        requires { self.now.level < 2 ^ 32 }
-        ensures { result ≡ along i self.now «record».now }
+    // The track behind record `i` of `count`, or the first of its rules that this record breaks.
+    fn along(
+        &self,
+        bounds: Bounds,
+        count: usize,
+        i: usize,
+        record: &Record,
+    ) -> Result<Track, LoadFault>
+        ensures { MatchResult result (λ t. (fault_of bounds.names bounds.strings bounds.depth count i self.now «record».now ≡ None) × (t ≡ along i self.now «record».now)) (λ f. fault_of bounds.names bounds.strings bounds.depth count i self.now «record».now ≡ Some f) }
     {
+        if !record.in_line(bounds) {
+            return Err(LoadFault::OffLine(i));
+        }
+        if !record.fits(count, i, self.next) {
+            return Err(LoadFault::Misplaced(i));
+        }
+        let level = self.level_at(i);
+        if level > u64::from(bounds.depth) {
+            return Err(LoadFault::TooDeep(i));
+        }
         let next = if record.is_group() {
             record.a as usize + record.b as usize
         } else {
             self.next
         };
         let upto = if i == self.upto { self.next } else { self.upto };
-        Track {
+        Ok(Track {
             next,
-            level: self.level_at(i),
+            level: level as u32,
             upto,
-        }
-    }
-}
-
-// What a check measures records against: the bytes of names and of strings, and the deepest depth.
-#[derive(Clone, Copy)]
-pub struct Bounds {
-    pub names: usize,
-    pub strings: usize,
-    pub depth: u32,
-}
-
-impl Record {
-    // Its fault as record `i` of `count`, if any: the first of its rules that it breaks.
-    fn fault(&self, bounds: Bounds, count: usize, i: usize, track: &Track) -> Option<LoadFault>
-        requires { track.now.level < 2 ^ 32 }
-        ensures { result ≡ fault_of bounds.names bounds.strings bounds.depth count i track.now self.now }
-    {
-        if !self.in_line(bounds.names, bounds.strings) {
-            Some(LoadFault::OffLine(i))
-        } else if !self.fits(count, i, track.next) {
-            Some(LoadFault::Misplaced(i))
-        } else if track.level_at(i) > bounds.depth as usize {
-            Some(LoadFault::TooDeep(i))
-        } else {
-            None
-        }
+        })
     }
 }
 
@@ -163,6 +149,7 @@ pub trait Records {
     fn count(&self) -> usize
         ensures { result ≡ length (list self.now) };
 
+    // It is asked for records below the count alone.
     fn at(&self, i: usize) -> Record
         requires { i < length (list self.now) }
         ensures { result ≡ entry (list self.now) i };
@@ -182,6 +169,7 @@ impl Records for &[Record] {
 
 // Checks the rules of all records in one pass: the first record that breaks one is named, with the first rule
 // that it breaks.
+#[tactic(auto, unfolding(crate::specs::Scan::first_fault))]
 pub fn check<R: Records>(records: &R, bounds: Bounds) -> Result<(), LoadFault>
     ensures same { refusal result ≡ first_fault bounds.names bounds.strings bounds.depth (R.list records.now) }
     ensures rules { MatchResult result (λ _. (i : ℕ) → i < length (R.list records.now) → Ruled bounds.names bounds.strings bounds.depth (R.list records.now) i) (λ f. FirstBreak bounds.names bounds.strings bounds.depth (R.list records.now) f) }
@@ -192,12 +180,9 @@ pub fn check<R: Records>(records: &R, bounds: Bounds) -> Result<(), LoadFault>
         level: 0,
         upto: 1,
     };
+    // An iterator of any type would require of every caller that it ends.
     for i in 0..count {
-        let record = records.at(i);
-        if let Some(fault) = record.fault(bounds, count, i, &track) {
-            return Err(fault);
-        }
-        track = track.along(i, &record);
+        track = track.along(bounds, count, i, &records.at(i))?;
     }
     Ok(())
 }

@@ -1,10 +1,11 @@
 -- The records of a file, and the parts that it is the bytes of. Assumes nothing.
-use Rattle.std.proofs.Common.{◌≡◌, ℕ, ◌+◌, ◌*◌, ◌<◌, ◌≤◌, List, [], ◌∷◌, ◌++◌, length, take, drop, set, sym, ap, ◌∙◌, arith, length-drop, drop-drop}
-use Rattle.std.proofs.lemmas.List.{take_more, take_more_set, drop-set-lt, ext_get_or, take-append-drop, length-take-le, take_at, drop_at}
+use Rattle.std.proofs.Common.{◌≡◌, ℕ, ◌+◌, ◌*◌, ◌<◌, ◌≤◌, zero, suc, List, [], ◌∷◌, ◌++◌, length, get_or, set, take, drop, sym, refl, ap, ◌∙◌, arith, add-one, append_assoc, drop-cons, lit<, lit≤, length-drop, drop-drop}
+use Rattle.std.specs.Simd.{first_chunks}
+use Rattle.std.proofs.lemmas.List.{map_more, set_at, ext_get_or, get_or-take, get_or-drop, get_or-map, length-map, take-append-drop, length-take-le, take_at, drop_at}
 use Rattle.std.proofs.lemmas.List.FromFn.{length-map-range_with_len, get_or-map-range_with_len}
 use Rattle.layout.specs.declared.record.Record.{Record}
 use Rattle.layout.specs.Rules.{Parts, no_record, entry}
-use Rattle.load.specs.Files.{N, L1, L2, after_head, record_at, records_of, Encodes}
+use Rattle.load.specs.Files.{le16, le32, le64, N, L1, L2, after_head, record_at, records_of, unpacked, Encodes}
 
 pub records_length : (n : ℕ) (bs : List ℕ) → length (records_of n bs) ≡ n
 unfolding records_of
@@ -14,13 +15,71 @@ pub records_at : (n : ℕ) (bs : List ℕ) (i : ℕ) → i < n → entry (record
 unfolding records_of
 records_at n bs i h = get_or-map-range_with_len (λ k. record_at bs (32 * k)) 0 n i i no_record h (omega arith)
 
+-- the bytes of a part of 32 bytes
+module _ (bs : List ℕ) (from : ℕ) where
+  part_at : (i j : ℕ) → i < 32 → from + i ≡ j → get_or (take 32 (drop from bs)) i 0 ≡ get_or bs j 0
+  part_at i j lt is = get_or-take 32 (drop from bs) i 0 lt ∙ get_or-drop from bs i 0 ∙ ap (λ x. get_or bs x 0) is
+
+  part16 : (i j : ℕ) → i + 2 ≤ 32 → from + i ≡ j → le16 (take 32 (drop from bs)) i ≡ le16 bs j
+  part16 i j lt is =
+      let a = part_at i j (omega arith) is in
+      let b = part_at (i + 1) (j + 1) (omega arith) (omega arith) in
+      cc
+
+  part32 : (i j : ℕ) → i + 4 ≤ 32 → from + i ≡ j → le32 (take 32 (drop from bs)) i ≡ le32 bs j
+  part32 i j lt is =
+      let a = part_at i j (omega arith) is in
+      let b = part_at (i + 1) (j + 1) (omega arith) (omega arith) in
+      let c = part_at (i + 2) (j + 2) (omega arith) (omega arith) in
+      let d = part_at (i + 3) (j + 3) (omega arith) (omega arith) in
+      cc
+
+  part64 : (i j : ℕ) → i + 8 ≤ 32 → from + i ≡ j → le64 (take 32 (drop from bs)) i ≡ le64 bs j
+  part64 i j lt is =
+      let a = part32 i j (omega arith) is in
+      let b = part32 (i + 4) (j + 4) (omega arith) (omega arith) in
+      cc
+
+  record_part : record_at (take 32 (drop from bs)) 0 ≡ record_at bs from
+  unfolding record_at
+  record_part k = record {
+    kind = part_at 0 from (lit< tt) (omega arith) k;
+    sub = part_at 1 (from + 1) (lit< tt) refl k;
+    mark = part16 2 (from + 2) (lit≤ tt) refl k;
+    a = part32 4 (from + 4) (lit≤ tt) refl k;
+    b = part32 8 (from + 8) (lit≤ tt) refl k;
+    place = part32 12 (from + 12) (lit≤ tt) refl k;
+    value = part64 16 (from + 16) (lit≤ tt) refl k;
+    bits = part64 24 (from + 24) (lit≤ tt) refl k;
+  }
+
+chunk_at : (m i : ℕ) (bs : List ℕ) → i < m → get_or (first_chunks 32 m bs) i [] ≡ take 32 (drop (32 * i) bs)
+chunk_at zero i bs lt = absurd (omega arith)
+chunk_at (suc m) zero bs lt = refl
+chunk_at (suc m) (suc i) bs lt = chunk_at m i (drop 32 bs) (omega arith) ∙ ap (take 32) (drop-drop (32 * i) 32 bs ∙ ap (λ x. drop x bs) (omega arith))
+
+-- the first n parts of a file's bytes hold its first n records
+pub unpacked_chunks : (bs : List ℕ) (m n : ℕ) (parts : List (List ℕ)) → parts ≡ first_chunks 32 m bs → length parts ≡ m → n ≤ m → unpacked (take n parts) ≡ records_of n bs
+unpacked_chunks bs m n parts is long le =
+    let count = length-take-le n parts (omega arith) in
+    let size : length (unpacked (take n parts)) ≡ n = length-map (take n parts) (λ xs. record_at xs 0) ∙ count in
+    ext_get_or no_record _ _ (size ∙ sym (records_length n bs)) (λ i h.
+    get_or-map (λ xs. record_at xs 0) (take n parts) i [] no_record (omega arith)
+    ∙ ap (λ xs. record_at xs 0) (get_or-take n parts i [] (omega arith) ∙ ap (λ xs. get_or xs i []) is ∙ chunk_at m i bs (omega arith))
+    ∙ record_part bs (32 * i) ∙ sym (records_at n bs i (omega arith)))
+
 -- one record more is copied
-pub copy_more : (rs from to : List Record) (i : ℕ) (r : Record) → i < length rs → i < length to → r ≡ entry rs i → take i to ≡ take i rs → drop i to ≡ drop i from →
-    (take (i + 1) (set to i r) ≡ take (i + 1) rs) × (drop (i + 1) (set to i r) ≡ drop (i + 1) from)
-copy_more rs from to i r a b is front back = (
-  take_more_set to i r b ∙ ap (λ (x : Record). take i to ++ (x ∷ [])) is ∙ ap (λ (xs : List Record). xs ++ (entry rs i ∷ [])) front ∙ sym (take_more rs i no_record a),
-  drop-set-lt (i + 1) to i r (omega arith) ∙ sym (drop-drop 1 i to) ∙ ap (drop 1) back ∙ drop-drop 1 i from,
-)
+pub copied_more : (parts : List (List ℕ)) (from : List Record) (i : ℕ) (r : Record) → i < length parts → i < length from → r ≡ record_at (get_or parts i []) 0 →
+    set (unpacked (take i parts) ++ drop i from) i r ≡ unpacked (take (i + 1) parts) ++ drop (i + 1) from
+copied_more parts from i r a b is =
+    let front = unpacked (take i parts) in
+    let back = drop (i + 1) from in
+    let long : length front ≡ i = length-map (take i parts) (λ bs. record_at bs 0) ∙ length-take-le i parts (omega arith) in
+    let later : drop i from ≡ get_or from i no_record ∷ back = drop-cons from i no_record b ∙ ap (λ j. get_or from i no_record ∷ drop j from) (sym (add-one i)) in
+    ap (λ xs. set (front ++ xs) i r) later
+    ∙ set_at front (get_or from i no_record) back r i long
+    ∙ ap (λ x. front ++ x ∷ back) is
+    ∙ sym (ap (λ xs. xs ++ back) (map_more (λ bs. record_at bs 0) parts i [] a) ∙ append_assoc front _ back)
 
 module _ (f : List ℕ) where
   -- what the bytes of a file hold, where its head says the truth

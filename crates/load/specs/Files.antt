@@ -27,6 +27,10 @@ record_at bs i = record { kind = slice_index bs i; sub = slice_index bs (i + 1);
 unfoldable pub records_of : ℕ → List ℕ → List Record
 records_of n bs = map (λ k. record_at bs (32 * k)) (range_with_len 0 n)
 
+-- the records of parts of 32 bytes each
+abbrev pub unpacked : List (List ℕ) → List Record
+unpacked parts = map (λ bs. record_at bs 0) parts
+
 -- the head's three numbers, and what follows its twelve bytes
 abbrev pub N : List ℕ → ℕ
 N f = le32 f 0

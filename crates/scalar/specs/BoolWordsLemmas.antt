@@ -1,6 +1,6 @@
 -- The words of the bool seed. Assumes nothing.
-use Rattle.std.specs.Prelude.{◌≡◌, ℕ, Bool, Some, refl}
-use Rattle.std.proofs.Common.{ap, ◌∙◌, arith}
+use Rattle.std.specs.Prelude.{◌≡◌, Bool, Some, refl}
+use Rattle.std.proofs.Common.{ap, ◌∙◌}
 use mathlib.Core.List.{is_set}
 use Rattle.std.proofs.Math.Nat.{ℕ_set}
 use Rattle.layout.specs.Rules.{Parts}
@@ -17,15 +17,12 @@ use Rattle.scalar.specs.Tokens.{token_one}
 
 read_so : (h : Parts) (t : Token) (v : Bool) → bool_of h t ≡ Some v → (part : Part) × (t ≡ tokens.Ident part) × (bytes_of h.names part ≡ spelling v)
 read_so h (tokens.Ident p) v is = (p, refl, spells (bytes_of h.names p) v is)
-read_so h (tokens.String p) v is = absurd (let z : ◌≡◌ {A = ℕ} 0 1 = cc in omega arith)
-read_so h (tokens.Punct p) v is = absurd (let z : ◌≡◌ {A = ℕ} 0 1 = cc in omega arith)
-read_so h (tokens.Literal l) v is = absurd (let z : ◌≡◌ {A = ℕ} 0 1 = cc in omega arith)
-read_so h (tokens.Group g) v is = absurd (let z : ◌≡◌ {A = ℕ} 0 1 = cc in omega arith)
+read_so h _ v is = absurd (cc)
 
 -- the seed takes its words
 pub bool_exact : Exact bool_read BoolWord
 bool_exact =
     single_exact wanted.Bool bool_of IsBool
-    (λ h p v is. read_so h (token h p) v is)
+    (λ h p. read_so h (token h p))
     (λ h p v w. ap (λ (t : Token). bool_of h t) w.1 ∙ ap truth w.2 ∙ spelt v)
     (λ h p v. token_one tokens.Ident (λ x y e. cc) (λ (part : Part). bytes_of h.names part ≡ spelling v) (λ _. is_set ℕ_set _ _) (token h p))

@@ -16,10 +16,7 @@ truth name = cond (bytes_eq name (codes "true")) (Some true) (cond (bytes_eq nam
 
 abbrev pub bool_of : Parts → Token → Option Bool
 bool_of h (tokens.Ident p) = truth (bytes_of h.names p)
-bool_of h (tokens.String p) = None
-bool_of h (tokens.Punct p) = None
-bool_of h (tokens.Literal l) = None
-bool_of h (tokens.Group g) = None
+bool_of h _ = None
 
 abbrev pub bool_read : Meaning Bool
 bool_read = single wanted.Bool bool_of

@@ -1,7 +1,6 @@
 -- Characters. Assumes nothing.
 use Rattle.std.specs.Prelude.{◌≡◌, ℕ, Some, None, Option}
 use Rattle.layout.specs.Rules.{Parts}
-use Rattle.sheet.specs.declared.token.Literal.{Literal}
 use Rattle.sheet.specs.declared.token.Literal.TheVariants as literals
 use Rattle.sheet.specs.declared.token.Token.{Token}
 use Rattle.sheet.specs.declared.token.Token.TheVariants as tokens
@@ -10,21 +9,9 @@ use Rattle.token_de.specs.declared.fault.Wanted.TheVariants as wanted
 use Rattle.token_de.specs.Meaning.{Meaning, Grammar}
 use Rattle.token_de.specs.Steps.{single, One}
 
-abbrev pub char_literal : Literal → Option ℕ
-char_literal (literals.Char c) = Some c
-char_literal (literals.Integer i) = None
-char_literal (literals.Float b) = None
-char_literal literals.ByteString = None
-char_literal literals.CString = None
-char_literal literals.Byte = None
-char_literal literals.Other = None
-
 abbrev pub char_of : Parts → Token → Option ℕ
-char_of h (tokens.Literal l) = char_literal l
-char_of h (tokens.Ident p) = None
-char_of h (tokens.String p) = None
-char_of h (tokens.Punct p) = None
-char_of h (tokens.Group g) = None
+char_of h (tokens.Literal (literals.Char c)) = Some c
+char_of h _ = None
 
 abbrev pub char_read : Meaning ℕ
 char_read = single wanted.Char char_of

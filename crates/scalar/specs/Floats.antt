@@ -1,31 +1,20 @@
 -- Numbers as the bits of an f64. Assumes nothing.
 use Rattle.std.specs.Prelude.{◌≡◌, ℕ, Bool, true, false, ◌⊎◌, Some, None, Option, bit_or}
 use Rattle.std.proofs.Common.{inl, inr}
+use Rattle.std.specs.Option.{option_map}
 use Rattle.sheet.specs.declared.token.Integer.{Integer}
-use Rattle.sheet.specs.declared.token.Literal.{Literal}
 use Rattle.sheet.specs.declared.token.Literal.TheVariants as literals
 use Rattle.sheet.specs.declared.token.Token.{Token}
 use Rattle.sheet.specs.declared.token.Token.TheVariants as tokens
 use Rattle.token_de.specs.declared.fault.Wanted.TheVariants as wanted
 use Rattle.token_de.specs.Meaning.{Meaning, Grammar}
-use Rattle.scalar.specs.Numbers.{on_some, number_read, NumberWord}
-
-abbrev pub literal_bits : Literal → Option ℕ
-literal_bits (literals.Integer i) = Some i.bits
-literal_bits (literals.Float b) = Some b
-literal_bits (literals.Char c) = None
-literal_bits literals.ByteString = None
-literal_bits literals.CString = None
-literal_bits literals.Byte = None
-literal_bits literals.Other = None
+use Rattle.scalar.specs.Numbers.{number_read, NumberWord}
 
 -- the bits of an integer or a float literal
 abbrev pub bits_of : Token → Option ℕ
-bits_of (tokens.Literal l) = literal_bits l
-bits_of (tokens.Ident p) = None
-bits_of (tokens.String p) = None
-bits_of (tokens.Punct p) = None
-bits_of (tokens.Group g) = None
+bits_of (tokens.Literal (literals.Integer i)) = Some i.bits
+bits_of (tokens.Literal (literals.Float b)) = Some b
+bits_of _ = None
 
 -- a `-` sets bit 63
 abbrev pub signed_bits : Bool → ℕ → ℕ
@@ -33,7 +22,7 @@ signed_bits true b = bit_or b 0x8000000000000000
 signed_bits false b = b
 
 abbrev pub float_worth : Bool → Token → Option ℕ
-float_worth b t = on_some (bits_of t) (λ bits. Some (signed_bits b bits))
+float_worth b t = option_map (signed_bits b) (bits_of t)
 
 abbrev pub float_read : Meaning ℕ
 float_read = number_read wanted.Float float_worth

@@ -1,6 +1,6 @@
 -- Numerals, alone or behind a `-`. Assumes nothing.
-use Rattle.std.specs.Prelude.{◌≡◌, ℕ, ◌+◌, Bool, true, false, cond, ◌⊎◌, Some, None, Ok, Option, ◌==◌, nat_lt}
-use Rattle.std.specs.Option.{ok_or}
+use Rattle.std.specs.Prelude.{◌≡◌, ℕ, ◌+◌, Bool, true, false, cond, ◌⊎◌, None, Ok, Option, ◌==◌, nat_lt}
+use Rattle.std.specs.Option.{ok_or, option_and_then}
 use Rattle.layout.specs.Rules.{Parts}
 use Rattle.sheet.specs.declared.token.Token.{Token}
 use Rattle.sheet.specs.declared.token.Token.TheVariants as tokens
@@ -17,18 +17,11 @@ minus = tokens.Punct (record { code = 45 })
 
 abbrev pub is_minus : Token → Bool
 is_minus (tokens.Punct p) = p.code == 45
-is_minus (tokens.Ident p) = false
-is_minus (tokens.String p) = false
-is_minus (tokens.Literal l) = false
-is_minus (tokens.Group g) = false
-
-abbrev pub on_some : {A B : Type 0} → Option A → (A → Option B) → Option B
-on_some None f = None
-on_some (Some a) f = f a
+is_minus _ = false
 
 -- the numeral at p, behind a `-`, of a run that ends at e
 abbrev pub behind : {V : Type 0} → (Bool → Token → Option V) → Parts → ℕ → ℕ → Option V
-behind worth h p e = cond (nat_lt p e) (on_some (if_there h p (token h p)) (worth true)) None
+behind worth h p e = cond (nat_lt p e) (option_and_then (worth true) (if_there h p (token h p))) None
 
 -- the token at p: a numeral, or a `-` before one
 abbrev pub from_token : {V : Type 0} → Wanted → (Bool → Token → Option V) → Parts → ℕ → ℕ → Token → Answer (Taken V)

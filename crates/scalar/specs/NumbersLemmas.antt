@@ -1,64 +1,54 @@
 -- Numerals, alone or behind a `-`. Assumes nothing.
-use Rattle.std.specs.Prelude.{◌≡◌, ℕ, ◌+◌, ◌-◌, ◌<◌, ◌≤◌, Bool, true, false, cond, ◌⊎◌, length, Some, None, Ok, Err, Option, nat_lt, refl}
+use Rattle.std.specs.Prelude.{◌≡◌, ℕ, ◌+◌, ◌-◌, ◌<◌, ◌≤◌, Bool, true, false, cond, ◌⊎◌, length, Some, None, Ok, Err, Option}
 use Rattle.std.proofs.Common.{sym, subst, ◌∙◌, inl, inr, ⊎_elim, arith}
 use Rattle.std.proofs.Math.Path.{ap}
-use mathlib.Core.HLevel.{×_prop, ×₃_prop}
 use Rattle.std.proofs.Math.Nat.{ℕ_set}
-use Rattle.std.proofs.lemmas.Bool.{cases_lt, lt-ltb, le-ltb, eqb-true, cond-true, cond-false}
+use Rattle.std.proofs.lemmas.Bool.{cases_lt, cases_Bool, eqb-true}
+use Rattle.std.proofs.lemmas.Bool.Decides.{nat_tests}
 use Rattle.std.specs.Option.{unwrap_or, ok_or}
 use Rattle.layout.specs.Rules.{Parts}
 use Rattle.sheet.specs.declared.token.Token.{Token}
 use Rattle.sheet.specs.declared.token.Token.TheVariants as tokens
 use Rattle.sheet.specs.Tokens.{token}
-use Rattle.sheet.specs.Trees.{if_there}
 use Rattle.token_de.specs.declared.seed.Taken.{Taken}
 use Rattle.token_de.specs.declared.fault.Fault.{Fault}
 use Rattle.token_de.specs.declared.fault.Fault.TheVariants.{Wrong, Ended}
 use Rattle.token_de.specs.declared.fault.Wanted.{Wanted}
 use Rattle.token_de.specs.Meaning.{Answer, Proper, Lawful, Exact}
 use Rattle.token_de.specs.Steps.{◌then◌}
-use Rattle.token_de.proofs.Trees.{token_set, next_is, next_none, run_inside, passed_inside}
-use Rattle.scalar.specs.Numbers.{minus, is_minus, on_some, behind, from_token, number_read, NumberWord}
+use Rattle.token_de.proofs.Trees.{token_set, run_inside, passed_inside}
+use Rattle.scalar.specs.Numbers.{minus, is_minus, behind, number_read, NumberWord}
 
 either_prop : {A B : Type 0} → IsProp A → IsProp B → (A → B → ⊥) → IsProp (A ⊎ B)
 either_prop a b apart (inl x) (inl y) = ap inl (a x y)
+either_prop a b apart (inr x) (inr y) = ap inr (b x y)
 either_prop a b apart (inl x) (inr y) = absurd (apart x y)
 either_prop a b apart (inr x) (inl y) = absurd (apart y x)
-either_prop a b apart (inr x) (inr y) = ap inr (b x y)
 
 minus_is : (t : Token) → is_minus t ≡ true → t ≡ minus
 minus_is (tokens.Punct p) is = ap (λ (c : ℕ). tokens.Punct (record { code = c })) (eqb-true p.code 45 is)
-minus_is (tokens.Ident p) is = absurd (let z : ◌≡◌ {A = ℕ} 0 1 = cc in omega arith)
-minus_is (tokens.String p) is = absurd (let z : ◌≡◌ {A = ℕ} 0 1 = cc in omega arith)
-minus_is (tokens.Literal l) is = absurd (let z : ◌≡◌ {A = ℕ} 0 1 = cc in omega arith)
-minus_is (tokens.Group g) is = absurd (let z : ◌≡◌ {A = ℕ} 0 1 = cc in omega arith)
+minus_is _ is = absurd (cc)
 
 module _ {V : Type 0} (wanted : Wanted) where
   -- an option's value as what was taken, or a wrong token
-  or_wrong : Option V → ℕ → ℕ → Answer (Taken V)
+  abbrev or_wrong : Option V → ℕ → ℕ → Answer (Taken V)
   or_wrong o p n = ok_or o (Wrong wanted p) then (λ v. Ok (record { count = n; value = v }))
 
   or_ok : (o : Option V) (p n : ℕ) (t : Taken V) → or_wrong o p n ≡ Ok t → (t.count ≡ n) × (o ≡ Some t.value)
-  unfolding or_wrong
-  or_ok (Some v) p n t is = let same : ◌≡◌ {A = Taken V} (record { count = n; value = v }) t = cc in (sym (ap (λ (x : Taken V). x.count) same), ap (λ (x : Taken V). Some x.value) same)
-  or_ok None p n t is = absurd (let z : ◌≡◌ {A = ℕ} 0 1 = cc in omega arith)
+  or_ok (Some v) p n t is = (cc, cc)
+  or_ok None p n t is = absurd (cc)
 
   or_err : (o : Option V) (p n : ℕ) (x : Fault) → or_wrong o p n ≡ Err x → Wrong wanted p ≡ x
-  unfolding or_wrong
-  or_err (Some v) p n x is = absurd (let z : ◌≡◌ {A = ℕ} 0 1 = cc in omega arith)
+  or_err (Some v) p n x is = absurd (cc)
   or_err None p n x is = cc
 
 module _ {V : Type 0} (wanted : Wanted) (worth : Bool → Token → Option V) (h : Parts) (p e : ℕ) where
   -- a numeral behind a `-`
   behind_left : p < e → e ≤ length h.records → behind worth h p e ≡ worth true (token h p)
-  behind_left lt inside = cond-true (nat_lt p e) _ None (lt-ltb p e lt)
-      ∙ ap (λ (o : Option Token). on_some o (worth true)) (cond-true (nat_lt p (length h.records)) (Some (token h p)) None (lt-ltb p (length h.records) (omega arith)))
+  behind_left lt inside = grind (arith, nat_tests)
 
   behind_some : (v : V) → e ≤ length h.records → behind worth h p e ≡ Some v → (p < e) × (worth true (token h p) ≡ Some v)
-  behind_some v inside is = ⊎_elim
-      (λ (lt : p < e). (lt, sym (behind_left lt inside) ∙ is))
-      (λ (le : e ≤ p). absurd (let n = cond-false (nat_lt p e) (on_some (if_there h p (token h p)) (worth true)) None (le-ltb p e le) in let z : ◌≡◌ {A = ℕ} 0 1 = cc in omega arith))
-      (cases_lt p e)
+  behind_some v inside is = (grind (arith, nat_tests), grind (arith, nat_tests))
 
 module _ {V : Type 0} (wanted : Wanted) (worth : Bool → Token → Option V) where
   -- a numeral alone, or a `-` and a numeral
@@ -70,42 +60,40 @@ module _ {V : Type 0} (wanted : Wanted) (worth : Bool → Token → Option V) wh
 
   read_left : (h : Parts) (p e : ℕ) (last : Option ℕ) (b : Bool) → p < e → p < length h.records → is_minus (token h p) ≡ b →
       number_read wanted worth h p e last ≡ cond b (or_wrong wanted (behind worth h (p + 1) e) p 2) (or_wrong wanted (worth false (token h p)) p 1)
-  unfolding or_wrong
-  read_left h p e last b lt in_range is = ap (λ (r : Answer Token). r then from_token wanted worth h p e) (next_is wanted h p e last lt in_range)
-      ∙ ap (λ (x : Bool). cond x (or_wrong wanted (behind worth h (p + 1) e) p 2) (or_wrong wanted (worth false (token h p)) p 1)) is
+  read_left h p e last b lt in_range is = grind (arith, nat_tests)
 
   read_none : (h : Parts) (p e : ℕ) (last : Option ℕ) → e ≤ p → number_read wanted worth h p e last ≡ Err (Ended wanted (unwrap_or last 0))
-  read_none h p e last le = ap (λ (r : Answer Token). r then from_token wanted worth h p e) (next_none wanted h p e last le)
+  read_none h p e last le = grind (arith, nat_tests)
+
+  alone_is : (h : Parts) (p e : ℕ) (last : Option ℕ) (t : Taken V) → p < e → p < length h.records → Alone h p t → number_read wanted worth h p e last ≡ Ok t
+  alone_is h p e last t lt in_range a = grind (arith, nat_tests)
+
+  negated_is : (h : Parts) (p e : ℕ) (last : Option ℕ) (t : Taken V) → e ≤ length h.records → Negated h p e t → number_read wanted worth h p e last ≡ Ok t
+  negated_is h p e last t inside a = grind (arith, nat_tests)
 
   number_ok : (h : Parts) (p e : ℕ) (last : Option ℕ) (t : Taken V) → e ≤ length h.records → number_read wanted worth h p e last ≡ Ok t → (p < e) × (Alone h p t ⊎ Negated h p e t)
   number_ok h p e last t inside is = ⊎_elim
-      (λ (lt : p < e). (lt, go (is_minus (token h p)) refl (sym (read_left h p e last (is_minus (token h p)) lt (omega arith) refl) ∙ is)))
-      (λ (le : e ≤ p). absurd (let n = read_none h p e last le in let z : ◌≡◌ {A = ℕ} 0 1 = cc in omega arith))
+      (λ (lt : p < e). (
+        lt,
+        ⊎_elim
+            (λ m. let o = or_ok wanted (behind worth h (p + 1) e) p 2 t (sym (read_left h p e last true lt (omega arith) m) ∙ is) in let b = behind_some wanted worth h (p + 1) e t.value inside o.1 in inr (o.0, m, b.0, b.1))
+            (λ m. let o = or_ok wanted (worth false (token h p)) p 1 t (sym (read_left h p e last false lt (omega arith) m) ∙ is) in inl (o.0, m, o.1))
+            (cases_Bool (is_minus (token h p))),
+      ))
+      (λ (le : e ≤ p). absurd (let n = read_none h p e last le in cc))
       (cases_lt p e)
-    where
-      go : (b : Bool) → is_minus (token h p) ≡ b → cond b (or_wrong wanted (behind worth h (p + 1) e) p 2) (or_wrong wanted (worth false (token h p)) p 1) ≡ Ok t → Alone h p t ⊎ Negated h p e t
-      go true m k = let o = or_ok wanted (behind worth h (p + 1) e) p 2 t k in let b = behind_some wanted worth h (p + 1) e t.value inside o.1 in inr (o.0, m, b.0, b.1)
-      go false m k = let o = or_ok wanted (worth false (token h p)) p 1 t k in inl (o.0, m, o.1)
-
-  alone_is : (h : Parts) (p e : ℕ) (last : Option ℕ) (t : Taken V) → p < e → p < length h.records → Alone h p t → number_read wanted worth h p e last ≡ Ok t
-  unfolding or_wrong
-  alone_is h p e last t lt in_range a = read_left h p e last false lt in_range a.1
-      ∙ ap (λ (o : Option V). or_wrong wanted o p 1) a.2 ∙ ap (λ (n : ℕ). Ok (record { count = n; value = t.value })) (sym a.0)
-
-  negated_is : (h : Parts) (p e : ℕ) (last : Option ℕ) (t : Taken V) → e ≤ length h.records → Negated h p e t → number_read wanted worth h p e last ≡ Ok t
-  unfolding or_wrong
-  negated_is h p e last t inside a = read_left h p e last true (omega (arith, a.2)) (omega (arith, a.2)) a.1
-      ∙ ap (λ (o : Option V). or_wrong wanted o p 2) (behind_left wanted worth h (p + 1) e a.2 inside ∙ a.3) ∙ ap (λ (n : ℕ). Ok (record { count = n; value = t.value })) (sym a.0)
 
   number_err : (h : Parts) (p e : ℕ) (last : Option ℕ) (x : Fault) → e ≤ length h.records → number_read wanted worth h p e last ≡ Err x → (Ended wanted (unwrap_or last 0) ≡ x) ⊎ ((p < length h.records) × (Wrong wanted p ≡ x))
   number_err h p e last x inside is = ⊎_elim
-      (λ (lt : p < e). inr (omega arith, go (is_minus (token h p)) (sym (read_left h p e last (is_minus (token h p)) lt (omega arith) refl) ∙ is)))
+      (λ (lt : p < e). inr (
+        omega arith,
+        ⊎_elim
+            (λ m. or_err wanted (behind worth h (p + 1) e) p 2 x (sym (read_left h p e last true lt (omega arith) m) ∙ is))
+            (λ m. or_err wanted (worth false (token h p)) p 1 x (sym (read_left h p e last false lt (omega arith) m) ∙ is))
+            (cases_Bool (is_minus (token h p))),
+      ))
       (λ (le : e ≤ p). inl (let n = read_none h p e last le in cc))
       (cases_lt p e)
-    where
-      go : (b : Bool) → cond b (or_wrong wanted (behind worth h (p + 1) e) p 2) (or_wrong wanted (worth false (token h p)) p 1) ≡ Err x → Wrong wanted p ≡ x
-      go true k = or_err wanted (behind worth h (p + 1) e) p 2 x k
-      go false k = or_err wanted (worth false (token h p)) p 1 x k
 
   pub number_lawful : Lawful (number_read wanted worth)
   number_lawful = record {
@@ -129,11 +117,7 @@ module _ {V : Type 0} (wanted : Wanted) (worth : Bool → Token → Option V) wh
       (n_one : (b : Bool) (t : Token) (v : V) → IsProp (N b t v))
       (n_no_minus : (v : V) → N false minus v → ⊥) where
     no_minus : (t : Token) (v : V) → N false t v → is_minus t ≡ false
-    no_minus t v n = go (is_minus t) refl
-      where
-        go : (b : Bool) → is_minus t ≡ b → b ≡ false
-        go true m = absurd (n_no_minus v (subst (λ (x : Token). N false x v) (minus_is t m) n))
-        go false m = refl
+    no_minus t v n = ⊎_elim (λ m. absurd (n_no_minus v (subst (λ (x : Token). N false x v) (minus_is t m) n))) (λ m. m) (cases_Bool (is_minus t))
 
     pub number_exact : Exact (number_read wanted worth) (NumberWord N)
     number_exact = record {
@@ -150,5 +134,5 @@ module _ {V : Type 0} (wanted : Wanted) (worth : Bool → Token → Option V) wh
           (λ a. alone_is h p e last (record { count = q - p; value = v }) (omega (arith, a.0)) (omega (arith, a.0)) (omega (arith, a.0), no_minus (token h p) v a.1, n_complete false (token h p) v a.1))
           (λ a. negated_is h p e last (record { count = q - p; value = v }) inside (omega (arith, a.0), ap is_minus a.1, omega (arith, a.0), n_complete true (token h (p + 1)) v a.2))
           w;
-      one = λ h p q v k. either_prop (×_prop (ℕ_set q (p + 1)) (n_one false (token h p) v)) (×₃_prop (ℕ_set q (p + 2)) (token_set _ _) (n_one true (token h (p + 1)) v)) (λ a b. omega (arith, a.0, b.0));
+      one = λ h p q v k. either_prop (hlevel (ℕ_set, n_one)) (hlevel (ℕ_set, token_set, n_one)) (λ a b. omega (arith, a.0, b.0));
     }

@@ -1,11 +1,12 @@
 -- Signed integers between two ends. Assumes nothing.
 use Rattle.std.specs.Prelude.{◌≡◌, ℕ, Bool, true, false, cond, ◌&&◌, ℤ, pos, neg_ℤ, ◌≤ℤ◌, Some, None, Option, int_le}
+use Rattle.std.specs.Option.{option_and_then}
 use Rattle.sheet.specs.declared.token.Token.{Token}
 use Rattle.token_de.specs.declared.fault.Wanted.TheVariants as wanted
 use Rattle.token_de.specs.Meaning.{Meaning, Grammar}
 use Rattle.scalar.specs.declared.signed.Signed.{Signed}
 use Rattle.scalar.specs.Integers.{magnitude_of, integer}
-use Rattle.scalar.specs.Numbers.{on_some, number_read, NumberWord}
+use Rattle.scalar.specs.Numbers.{number_read, NumberWord}
 
 -- the integer of a magnitude, behind a `-` or not
 abbrev pub signed_value : Bool → ℕ → ℤ
@@ -16,7 +17,7 @@ abbrev pub inside : Signed → ℤ → Option ℤ
 inside s v = cond (int_le s.low v && int_le v s.high) (Some v) None
 
 abbrev pub signed_worth : Signed → Bool → Token → Option ℤ
-signed_worth s b t = on_some (magnitude_of t) (λ m. inside s (signed_value b m))
+signed_worth s b t = option_and_then (λ m. inside s (signed_value b m)) (magnitude_of t)
 
 abbrev pub signed_read : Signed → Meaning ℤ
 signed_read s = number_read wanted.Signed (signed_worth s)

@@ -1,6 +1,5 @@
 -- The words of the identifier and the string seed. Assumes nothing.
 use Rattle.std.proofs.Common.{arith}
-use mathlib.Core.HLevel.{×_prop}
 use Rattle.std.proofs.lemmas.Bool.Decides.{nat_tests}
 use Rattle.token_de.specs.declared.fault.Wanted.TheVariants as wanted
 use Rattle.token_de.specs.Meaning.{Exact}
@@ -10,7 +9,7 @@ use base.Stored.{Coded-set}
 use Rattle.sheet.specs.contracts.text.Pool.{the_row}
 use Rattle.sheet.specs.declared.text.Pool.{Pool}
 
-pub pool_set : IsSet Pool
+pool_set : IsSet Pool
 pool_set = Coded-set the_row.coded
 
 -- the seeds take their words
@@ -19,7 +18,7 @@ identifier_exact =
     single_exact wanted.Identifier identifier_of IsIdentifier
     (λ h p v is. (grind (arith, nat_tests), grind (arith, nat_tests)))
     (λ h p v w. grind (arith, nat_tests))
-    (λ h p v. ×_prop (token_set _ _) (pool_set _ _))
+    (λ h p v. hlevel (token_set, pool_set))
 
 pub string_exact : Exact string_read StringWord
 string_exact =

@@ -21,17 +21,12 @@ in_pool k p = record { pool = k; start = p.start; len = p.len }
 
 abbrev pub identifier_of : Parts → Token → Option TextPart
 identifier_of h (tokens.Ident p) = Some (in_pool Names p)
-identifier_of h (tokens.String p) = None
-identifier_of h (tokens.Punct p) = None
-identifier_of h (tokens.Literal l) = None
-identifier_of h (tokens.Group g) = None
+identifier_of h _ = None
 
 abbrev pub string_of : Parts → Token → Option TextPart
 string_of h (tokens.Ident p) = Some (in_pool Names p)
 string_of h (tokens.String p) = Some (in_pool Strings p)
-string_of h (tokens.Punct p) = None
-string_of h (tokens.Literal l) = None
-string_of h (tokens.Group g) = None
+string_of h _ = None
 
 abbrev pub identifier_read : Meaning TextPart
 identifier_read = single wanted.Identifier identifier_of

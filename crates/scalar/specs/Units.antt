@@ -1,8 +1,8 @@
 -- The unit value. Assumes nothing.
 use Rattle.std.specs.Prelude.{◌≡◌, ℕ, Bool, true, false, cond, ◌&&◌, Some, None, Option, ◌==◌}
 use Rattle.layout.specs.Rules.{Parts}
-use Rattle.sheet.specs.declared.token.Delimiter.{Delimiter}
-use Rattle.sheet.specs.declared.token.Delimiter.TheVariants.{Parenthesis, Brace, Bracket, Invisible}
+use Rattle.layout.specs.declared.kind.Delimiter.{Delimiter}
+use Rattle.layout.specs.declared.kind.Delimiter.TheVariants.{Parenthesis}
 use Rattle.sheet.specs.declared.token.Group.{Group}
 use Rattle.sheet.specs.declared.token.Token.{Token}
 use Rattle.sheet.specs.declared.token.Token.TheVariants as tokens
@@ -13,16 +13,11 @@ use Rattle.token_de.specs.Steps.{single, One}
 
 abbrev pub parenthesis : Delimiter → Bool
 parenthesis Parenthesis = true
-parenthesis Brace = false
-parenthesis Bracket = false
-parenthesis Invisible = false
+parenthesis _ = false
 
 abbrev pub unit_of : Parts → Token → Option (Unit {0})
 unit_of h (tokens.Group g) = cond (parenthesis g.delimiter && g.count == 0) (Some tt) None
-unit_of h (tokens.Ident p) = None
-unit_of h (tokens.String p) = None
-unit_of h (tokens.Punct p) = None
-unit_of h (tokens.Literal l) = None
+unit_of h _ = None
 
 abbrev pub unit_read : Meaning (Unit {0})
 unit_read = single wanted.Unit unit_of

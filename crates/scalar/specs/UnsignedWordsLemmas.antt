@@ -1,7 +1,6 @@
 -- The words of the unsigned seeds. Assumes nothing.
 use Rattle.std.specs.Prelude.{◌≡◌, ℕ, ◌≤◌, Some, None, Option}
 use Rattle.std.proofs.Common.{ap, ◌∙◌, arith}
-use mathlib.Core.HLevel.{×_prop}
 use Rattle.std.proofs.Math.Bridge.{le_prop}
 use Rattle.std.proofs.lemmas.Bool.Decides.{nat_tests}
 use Rattle.sheet.specs.declared.token.Token.{Token}
@@ -15,8 +14,8 @@ use Rattle.scalar.specs.Integers.{magnitude_of, integer}
 use Rattle.scalar.specs.Tokens.{token_one, integer_of, integer_bits}
 
 -- what is between the ends is the magnitude
-pub inside : (s : Unsigned) (o : Option ℕ) (v : ℕ) → between s o ≡ Some v → (o ≡ Some v) × (s.low ≤ v) × (v ≤ s.high)
-inside s None v is = absurd (let z : ◌≡◌ {A = ℕ} 0 1 = cc in omega arith)
+inside : (s : Unsigned) (o : Option ℕ) (v : ℕ) → between s o ≡ Some v → (o ≡ Some v) × (s.low ≤ v) × (v ≤ s.high)
+inside s None v is = absurd (cc)
 inside s (Some m) v is = (grind (arith, nat_tests), grind (arith, nat_tests), grind (arith, nat_tests))
 
 ends : (s : Unsigned) (v : ℕ) → s.low ≤ v → v ≤ s.high → between s (Some v) ≡ Some v
@@ -28,4 +27,4 @@ unsigned_exact s =
     single_exact wanted.Unsigned (unsigned_of s) (IsUnsigned s)
     (λ h p v is. let k = inside s (magnitude_of (token h p)) v is in let i = integer_of (token h p) v k.0 in (i.0, i.1, (k.1, k.2)))
     (λ h p v w. ap (λ (t : Token). unsigned_of s h t) w.1 ∙ ends s v w.2.0 w.2.1)
-    (λ h p v. token_one (integer v) (integer_bits v) (λ _. (s.low ≤ v) × (v ≤ s.high)) (λ _. ×_prop le_prop le_prop) (token h p))
+    (λ h p v. token_one (integer v) (integer_bits v) (λ _. (s.low ≤ v) × (v ≤ s.high)) (λ _. hlevel (le_prop)) (token h p))

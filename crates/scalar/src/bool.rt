@@ -1,37 +1,26 @@
 ghost use Rattle.std.specs.Prelude.{◌≡◌};
-ghost use Rattle.std.specs.Str.{bytes_eq};
 ghost use Rattle.scalar.specs.Bools.{truth, bool_read, BoolWord, bool_of};
 ghost use Rattle.token_de.specs.declared.fault.Wanted.TheVariants as wanted;
 ghost use Rattle.token_de.proofs.Trees.{single_lawful};
 ghost use Rattle.scalar.specs.BoolWordsLemmas.{bool_exact};
 
-use sheet::sheet::Sheet;
-use sheet::spot::Rest;
+use sheet::input::Input;
 use sheet::tree::Tree;
 use token_de::fault::{Fault, Wanted};
-use token_de::seed::{Seed, Taken, Words, next_token};
+use token_de::seed::{Seed, Taken, Words};
 
 // A truth value: the identifier `true` or `false`.
 #[derive(Clone, Copy)]
 pub struct Bool;
 
-// Whether a name is spelled with these bytes.
-fn is_spelled(name: &[u8], bytes: &[u8]) -> bool
-    ensures { result ≡ bytes_eq name.now bytes.now }
-{
-    name == bytes
-}
-
 // The truth value that a name spells, if it does.
 pub fn spelled(name: &[u8]) -> Option<bool>
     ensures { result ≡ truth name.now }
 {
-    if is_spelled(name, b"true") {
-        Some(true)
-    } else if is_spelled(name, b"false") {
-        Some(false)
-    } else {
-        None
+    match name {
+        b"true" => Some(true),
+        b"false" => Some(false),
+        _ => None,
     }
 }
 
@@ -42,14 +31,15 @@ impl Seed for Bool {
 
     ghost lawful = { λ _. single_lawful wanted.Bool bool_of };
 
-    fn read(&self, sheet: &Sheet, rest: Rest) -> Result<Taken<bool>, Fault> {
-        next_token(sheet, rest, Wanted::Bool)?;
-        let wrong = Fault::Wrong(Wanted::Bool, rest.from);
-        let Some(Tree::Ident(name)) = sheet.tree(rest.from) else {
+    #[tactic(auto, using(sheet::proofs::Inputs::rest_fits))]
+    fn read(&self, input: &Input) -> Result<Taken<bool>, Fault> {
+        let ended = Fault::ended(Wanted::Bool, input);
+        let wrong = Fault::wrong(Wanted::Bool, input);
+        let Tree::Ident(name) = input.tree().ok_or(ended)? else {
             return Err(wrong);
         };
         let value = spelled(name).ok_or(wrong)?;
-        Ok(Taken { count: 1, value })
+        Ok(Taken::one(value))
     }
 }
 

@@ -3,11 +3,10 @@ ghost use Rattle.token_de.specs.declared.fault.Wanted.TheVariants as wanted;
 ghost use Rattle.token_de.proofs.Trees.{single_lawful};
 ghost use Rattle.scalar.specs.CharWordsLemmas.{char_exact};
 
-use sheet::sheet::Sheet;
-use sheet::spot::Rest;
+use sheet::input::Input;
 use sheet::token::{Literal, Token};
 use token_de::fault::{Fault, Wanted};
-use token_de::seed::{Seed, Taken, Words, next_token};
+use token_de::seed::{Seed, Taken, Words, first_token};
 
 // A character: one char literal.
 #[derive(Clone, Copy)]
@@ -20,10 +19,10 @@ impl Seed for Char {
 
     ghost lawful = { λ _. single_lawful wanted.Char char_of };
 
-    fn read(&self, sheet: &Sheet, rest: Rest) -> Result<Taken<char>, Fault> {
-        match next_token(sheet, rest, Wanted::Char)? {
-            Token::Literal(Literal::Char(value)) => Ok(Taken { count: 1, value }),
-            _ => Err(Fault::Wrong(Wanted::Char, rest.from)),
+    fn read(&self, input: &Input) -> Result<Taken<char>, Fault> {
+        match first_token(input, Wanted::Char)? {
+            Token::Literal(Literal::Char(value)) => Ok(Taken::one(value)),
+            _ => Err(Fault::wrong(Wanted::Char, input)),
         }
     }
 }

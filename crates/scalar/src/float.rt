@@ -1,12 +1,11 @@
-ghost use Rattle.std.specs.Prelude.{◌≡◌};
-ghost use Rattle.scalar.specs.Floats.{bits_of, float_worth, float_read, FloatWord};
+ghost use Rattle.std.specs.Prelude.{◌≡◌, true};
+ghost use Rattle.scalar.specs.Floats.{bits_of, signed_bits, float_worth, float_read, FloatWord};
 ghost use Rattle.token_de.specs.declared.fault.Wanted.TheVariants as wanted;
 ghost use Rattle.scalar.specs.NumbersLemmas.{number_lawful};
 ghost use Rattle.scalar.specs.FloatWordsLemmas.{float_exact};
 
 use crate::number::{Numeral, read_number};
-use sheet::sheet::Sheet;
-use sheet::spot::Rest;
+use sheet::input::Input;
 use sheet::token::{Literal, Token};
 use token_de::fault::{Fault, Wanted};
 use token_de::seed::{Seed, Taken, Words};
@@ -15,7 +14,15 @@ use token_de::seed::{Seed, Taken, Words};
 #[derive(Clone, Copy)]
 pub struct Float;
 
-const SIGN: u64 = 0x8000_0000_0000_0000;
+// The bit of an f64 that says that it is negative.
+const SIGN: u64 = 1 << 63;
+
+// The bits of a number with its sign set, whatever it was.
+pub fn with_sign(bits: u64) -> u64
+    ensures { result ≡ signed_bits true bits }
+{
+    bits | SIGN
+}
 
 // The bits of a number's literal.
 fn bits_of(token: Token) -> Option<u64>
@@ -35,11 +42,8 @@ impl Numeral for Float {
 
     fn value_of(&self, negative: bool, token: Token) -> Option<u64> {
         let bits = bits_of(token)?;
-        if negative {
-            Some(bits | SIGN)
-        } else {
-            Some(bits)
-        }
+        let signed = if negative { with_sign(bits) } else { bits };
+        Some(signed)
     }
 }
 
@@ -50,8 +54,8 @@ impl Seed for Float {
 
     ghost lawful = { λ _. number_lawful wanted.Float float_worth };
 
-    fn read(&self, sheet: &Sheet, rest: Rest) -> Result<Taken<u64>, Fault> {
-        read_number(self, Wanted::Float, sheet, rest)
+    fn read(&self, input: &Input) -> Result<Taken<u64>, Fault> {
+        read_number(self, Wanted::Float, &input.sheet(), input.rest())
     }
 }
 

@@ -1,5 +1,5 @@
 ghost use Rattle.std.specs.Prelude.{◌≡◌};
-ghost use Rattle.scalar.specs.Integers.{magnitude_of, literal_magnitude};
+ghost use Rattle.scalar.specs.Integers.{magnitude_of};
 
 use sheet::token::{Literal, Token};
 

@@ -1,7 +1,7 @@
 ghost use Rattle.std.specs.Prelude.{◌≡◌, Bool as Truth, Option as Opt};
 ghost use Rattle.sheet.specs.declared.token.Token.{Token as Tok};
 ghost use Rattle.sheet.specs.Sheets.{held};
-ghost use Rattle.scalar.specs.Numbers.{is_minus, behind, number_read};
+ghost use Rattle.scalar.specs.Numbers.{behind, number_read};
 
 use sheet::sheet::Sheet;
 use sheet::spot::Rest;
@@ -19,17 +19,15 @@ pub trait Numeral {
         ensures { result ≡ worth self.now negative token };
 }
 
-// The numeral at `at`, behind a `-`, if a run that ends at `to` has one there.
+// The numeral at `at`, behind a `-`, if a rest that ends at `to` has one there.
 fn behind_minus<N: Numeral>(number: &N, sheet: &Sheet, at: usize, to: usize) -> Option<N::Value>
     ensures { result ≡ behind (N.Numeral.worth number.now) (held sheet.now) at to }
 {
     if at >= to {
         return None;
     }
-    match sheet.token(at) {
-        Some(token) => number.value_of(true, token),
-        None => None,
-    }
+    let token = sheet.token(at)?;
+    number.value_of(true, token)
 }
 
 // A numeral, or a `-` and a numeral.
@@ -43,19 +41,10 @@ pub fn read_number<N: Numeral>(
 {
     let wrong = Fault::Wrong(wanted, rest.from);
     let token = next_token(sheet, rest, wanted)?;
-    if is_minus(token) {
+    if token == Token::Punct(Punct::MINUS) {
         let value = behind_minus(number, sheet, rest.from + 1, rest.to).ok_or(wrong)?;
         return Ok(Taken { count: 2, value });
     }
     let value = number.value_of(false, token).ok_or(wrong)?;
-    Ok(Taken { count: 1, value })
-}
-
-fn is_minus(token: Token) -> bool
-    ensures { result ≡ is_minus token }
-{
-    match token {
-        Token::Punct(punct) => punct == Punct::MINUS,
-        _ => false,
-    }
+    Ok(Taken::one(value))
 }

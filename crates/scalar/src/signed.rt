@@ -1,13 +1,14 @@
-ghost use Rattle.std.specs.Prelude.{◌≡◌};
-ghost use Rattle.scalar.specs.Signeds.{signed_value, inside, signed_worth, signed_read, SignedWord};
+ghost use Rattle.std.specs.Prelude.{FitsSigned};
+ghost use Rattle.std.specs.Int.{w64};
+ghost use Rattle.std.specs.Option.{SomeIff};
+ghost use Rattle.scalar.specs.Signeds.{signed_value, signed_worth, signed_read, SignedWord};
 ghost use Rattle.token_de.specs.declared.fault.Wanted.TheVariants as wanted;
 ghost use Rattle.scalar.specs.NumbersLemmas.{number_lawful};
 ghost use Rattle.scalar.specs.SignedWordsLemmas.{signed_exact};
 
 use crate::integer::magnitude_of;
 use crate::number::{Numeral, read_number};
-use sheet::sheet::Sheet;
-use sheet::spot::Rest;
+use sheet::input::Input;
 use sheet::token::Token;
 use token_de::fault::{Fault, Wanted};
 use token_de::seed::{Seed, Taken, Words};
@@ -21,39 +22,34 @@ pub struct Signed {
 
 impl Signed {
     pub const I8: Signed = Signed {
-        low: -0x80,
-        high: 0x7f,
+        low: i8::MIN as i64,
+        high: i8::MAX as i64,
     };
 
     pub const I16: Signed = Signed {
-        low: -0x8000,
-        high: 0x7fff,
+        low: i16::MIN as i64,
+        high: i16::MAX as i64,
     };
 
     pub const I32: Signed = Signed {
-        low: -0x8000_0000,
-        high: 0x7fff_ffff,
+        low: i32::MIN as i64,
+        high: i32::MAX as i64,
     };
 
     pub const I64: Signed = Signed {
-        low: -0x8000_0000_0000_0000,
-        high: 0x7fff_ffff_ffff_ffff,
+        low: i64::MIN,
+        high: i64::MAX,
     };
+}
 
-    // The integer of this sign and magnitude, if it is between the ends.
-    fn between(&self, negative: bool, magnitude: u64) -> Option<i64>
-        ensures { result ≡ inside self.now (signed_value negative magnitude) }
-    {
-        let value = if negative {
-            -(magnitude as i128)
-        } else {
-            magnitude as i128
-        };
-        if self.low as i128 <= value && value <= self.high as i128 {
-            Some(value as i64)
-        } else {
-            None
-        }
+// The integer of this sign and magnitude, if it fits 64 bits.
+fn signed_of(negative: bool, magnitude: u64) -> Option<i64>
+    ensures { SomeIff result (FitsSigned w64 (signed_value negative magnitude)) (signed_value negative magnitude) }
+{
+    if negative {
+        0i64.checked_sub_unsigned(magnitude)
+    } else {
+        i64::try_from(magnitude).ok()
     }
 }
 
@@ -63,8 +59,10 @@ impl Numeral for Signed {
     ghost worth = { signed_worth };
 
     fn value_of(&self, negative: bool, token: Token) -> Option<i64> {
+        let Signed { low, high } = *self;
         let magnitude = magnitude_of(token)?;
-        self.between(negative, magnitude)
+        let value = signed_of(negative, magnitude)?;
+        (low..=high).contains(&value).then_some(value)
     }
 }
 
@@ -75,8 +73,8 @@ impl Seed for Signed {
 
     ghost lawful = { λ s. number_lawful wanted.Signed (signed_worth s) };
 
-    fn read(&self, sheet: &Sheet, rest: Rest) -> Result<Taken<i64>, Fault> {
-        read_number(self, Wanted::Signed, sheet, rest)
+    fn read(&self, input: &Input) -> Result<Taken<i64>, Fault> {
+        read_number(self, Wanted::Signed, &input.sheet(), input.rest())
     }
 }
 

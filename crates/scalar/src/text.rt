@@ -1,14 +1,14 @@
-ghost use Rattle.scalar.specs.Texts.{identifier_read, IdentifierWord, string_read, StringWord, TextRefusedAsString, identifier_of, string_of};
+ghost use Rattle.std.specs.Prelude.{◌≡◌};
+ghost use Rattle.scalar.specs.Texts.{in_pool, identifier_read, IdentifierWord, string_read, StringWord, TextRefusedAsString, identifier_of, string_of};
 ghost use Rattle.token_de.specs.declared.fault.Wanted.TheVariants as wanted;
 ghost use Rattle.token_de.proofs.Trees.{single_lawful};
 ghost use Rattle.scalar.specs.TextWordsLemmas.{identifier_exact, string_exact};
 
-use sheet::sheet::Sheet;
-use sheet::spot::Rest;
+use sheet::input::Input;
 use sheet::text::Pool;
-use sheet::token::Token;
+use sheet::token::{Part, Token};
 use token_de::fault::{Fault, Wanted};
-use token_de::seed::{Seed, Taken, Words, next_token};
+use token_de::seed::{Seed, Taken, Words, first_token};
 
 // A text by where it lies: its pool, its first byte there, and its length.
 #[derive(Clone, Copy, PartialEq, Eq, Debug)]
@@ -16,6 +16,16 @@ pub struct TextPart {
     pub pool: Pool,
     pub start: usize,
     pub len: usize,
+}
+
+impl TextPart {
+    // This part of this pool.
+    pub fn new(pool: Pool, part: Part) -> TextPart
+        ensures { result ≡ in_pool pool part }
+    {
+        let Part { start, len } = part;
+        TextPart { pool, start, len }
+    }
 }
 
 // A name: one identifier.
@@ -33,17 +43,10 @@ impl Seed for Identifier {
 
     ghost lawful = { λ _. single_lawful wanted.Identifier identifier_of };
 
-    fn read(&self, sheet: &Sheet, rest: Rest) -> Result<Taken<TextPart>, Fault> {
-        match next_token(sheet, rest, Wanted::Identifier)? {
-            Token::Ident(part) => Ok(Taken {
-                count: 1,
-                value: TextPart {
-                    pool: Pool::Names,
-                    start: part.start,
-                    len: part.len,
-                },
-            }),
-            _ => Err(Fault::Wrong(Wanted::Identifier, rest.from)),
+    fn read(&self, input: &Input) -> Result<Taken<TextPart>, Fault> {
+        match first_token(input, Wanted::Identifier)? {
+            Token::Ident(part) => Ok(Taken::one(TextPart::new(Pool::Names, part))),
+            _ => Err(Fault::wrong(Wanted::Identifier, input)),
         }
     }
 }
@@ -61,25 +64,11 @@ impl Seed for Str {
 
     ghost lawful = { λ _. single_lawful wanted.String string_of };
 
-    fn read(&self, sheet: &Sheet, rest: Rest) -> Result<Taken<TextPart>, Fault> {
-        match next_token(sheet, rest, Wanted::String)? {
-            Token::Ident(part) => Ok(Taken {
-                count: 1,
-                value: TextPart {
-                    pool: Pool::Names,
-                    start: part.start,
-                    len: part.len,
-                },
-            }),
-            Token::String(part) => Ok(Taken {
-                count: 1,
-                value: TextPart {
-                    pool: Pool::Strings,
-                    start: part.start,
-                    len: part.len,
-                },
-            }),
-            _ => Err(Fault::Wrong(Wanted::String, rest.from)),
+    fn read(&self, input: &Input) -> Result<Taken<TextPart>, Fault> {
+        match first_token(input, Wanted::String)? {
+            Token::Ident(part) => Ok(Taken::one(TextPart::new(Pool::Names, part))),
+            Token::String(part) => Ok(Taken::one(TextPart::new(Pool::Strings, part))),
+            _ => Err(Fault::wrong(Wanted::String, input)),
         }
     }
 }

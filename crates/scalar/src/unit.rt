@@ -3,11 +3,10 @@ ghost use Rattle.token_de.specs.declared.fault.Wanted.TheVariants as wanted;
 ghost use Rattle.token_de.proofs.Trees.{single_lawful};
 ghost use Rattle.scalar.specs.EmptyParensWordsLemmas.{unit_exact};
 
-use sheet::sheet::Sheet;
-use sheet::spot::Rest;
+use sheet::input::Input;
 use sheet::token::{Delimiter, Token};
 use token_de::fault::{Fault, Wanted};
-use token_de::seed::{Seed, Taken, Words, next_token};
+use token_de::seed::{Seed, Taken, Words, first_token};
 
 // The unit value: an empty pair of parentheses.
 #[derive(Clone, Copy)]
@@ -20,14 +19,11 @@ impl Seed for EmptyParens {
 
     ghost lawful = { λ _. single_lawful wanted.Unit unit_of };
 
-    fn read(&self, sheet: &Sheet, rest: Rest) -> Result<Taken<()>, Fault> {
-        match next_token(sheet, rest, Wanted::Unit)? {
+    fn read(&self, input: &Input) -> Result<Taken<()>, Fault> {
+        match first_token(input, Wanted::Unit)? {
             Token::Group(group) if group.delimiter == Delimiter::Parenthesis && group.count == 0 =>
-                Ok(Taken {
-                    count: 1,
-                    value: (),
-                }),
-            _ => Err(Fault::Wrong(Wanted::Unit, rest.from)),
+                Ok(Taken::one(())),
+            _ => Err(Fault::wrong(Wanted::Unit, input)),
         }
     }
 }

@@ -4,12 +4,12 @@ ghost use Rattle.token_de.proofs.Trees.{single_lawful};
 ghost use Rattle.scalar.specs.UnsignedWordsLemmas.{unsigned_exact};
 
 use crate::integer::magnitude_of;
-use sheet::sheet::Sheet;
-use sheet::spot::Rest;
+use sheet::input::Input;
 use token_de::fault::{Fault, Wanted};
-use token_de::seed::{Seed, Taken, Words, next_token};
+use token_de::seed::{Seed, Taken, Words, first_token};
 
-// An unsigned integer between two inclusive ends. Where the ends are in the wrong order it has no words.
+// An unsigned integer between two inclusive ends. Where the ends are in the wrong order it has no words. Unlike
+// `Signed`, it is one token: a `-` is refused, whatever is behind it. One generic struct would share the two ends alone.
 #[derive(Clone, Copy)]
 pub struct Unsigned {
     pub low: u64,
@@ -17,21 +17,24 @@ pub struct Unsigned {
 }
 
 impl Unsigned {
-    pub const U8: Unsigned = Unsigned { low: 0, high: 0xff };
+    pub const U8: Unsigned = Unsigned {
+        low: 0,
+        high: u8::MAX as u64,
+    };
 
     pub const U16: Unsigned = Unsigned {
         low: 0,
-        high: 0xffff,
+        high: u16::MAX as u64,
     };
 
     pub const U32: Unsigned = Unsigned {
         low: 0,
-        high: 0xffff_ffff,
+        high: u32::MAX as u64,
     };
 
     pub const U64: Unsigned = Unsigned {
         low: 0,
-        high: 0xffff_ffff_ffff_ffff,
+        high: u64::MAX,
     };
 }
 
@@ -42,11 +45,11 @@ impl Seed for Unsigned {
 
     ghost lawful = { λ s. single_lawful wanted.Unsigned (unsigned_of s) };
 
-    fn read(&self, sheet: &Sheet, rest: Rest) -> Result<Taken<u64>, Fault> {
-        let token = next_token(sheet, rest, Wanted::Unsigned)?;
+    fn read(&self, input: &Input) -> Result<Taken<u64>, Fault> {
+        let token = first_token(input, Wanted::Unsigned)?;
         match magnitude_of(token) {
-            Some(value) if self.low <= value && value <= self.high => Ok(Taken { count: 1, value }),
-            _ => Err(Fault::Wrong(Wanted::Unsigned, rest.from)),
+            Some(value) if (self.low..=self.high).contains(&value) => Ok(Taken::one(value)),
+            _ => Err(Fault::wrong(Wanted::Unsigned, input)),
         }
     }
 }

@@ -1,31 +1,27 @@
 // Makes the records of small sheets.
+// The other test crate has makers like these: a crate for both would need contracts for test data.
 use layout::record::Record;
 
 pub const NAMES: &[u8] = b"truefalser#trueTrue";
 
 pub const STRINGS: &[u8] = b"true text";
 
-// An identifier without bytes; the other records are made from it.
-pub const BLANK: Record = Record {
-    kind: 0,
-    sub: 0,
-    mark: 0,
-    a: 0,
-    b: 0,
-    place: 0,
-    value: 0,
-    bits: 0,
-};
+// The sign of an f64, and the magnitude of the least i64.
+pub const SIGN: u64 = 0x8000_0000_0000_0000;
 
 pub fn ident(a: u32, b: u32) -> Record {
-    Record { a, b, ..BLANK }
+    Record {
+        a,
+        b,
+        ..Record::default()
+    }
 }
 
 pub fn punct(code: u8) -> Record {
     Record {
         kind: 1,
         sub: code,
-        ..BLANK
+        ..Record::default()
     }
 }
 
@@ -33,7 +29,7 @@ pub fn literal(sub: u8) -> Record {
     Record {
         kind: 2,
         sub,
-        ..BLANK
+        ..Record::default()
     }
 }
 
@@ -77,7 +73,7 @@ pub fn group(sub: u8, a: u32, b: u32) -> Record {
         sub,
         a,
         b,
-        ..BLANK
+        ..Record::default()
     }
 }
 

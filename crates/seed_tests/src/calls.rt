@@ -6,10 +6,10 @@ use layout::record::Record;
 use scalar::signed::Signed;
 use scalar::text::Identifier;
 use sheet::sheet::Sheet;
-use sheet::tree::Tree;
+use std::fmt::Debug;
 use std::process::Abort;
 use std::test::Fail;
-use token_de::fault::Fault;
+use token_de::seed::Seed;
 
 // Pseudorandom numbers: xorshift of 64 bits.
 #[derive(Drop)]
@@ -78,23 +78,10 @@ fn random_kinds(random: &mut Random) -> [Kind; MOST] {
 // A brace round the first tokens, and the records of all.
 fn records_of(kinds: &[Kind; MOST], count: u32) -> [Record; 13] {
     let mut records = [group(1, 1, count); 13];
-    for place in 0..MOST {
-        records[place + 1] = kinds[place].record();
+    for (record, kind) in records[1..].iter_mut().zip(kinds.iter()) {
+        *record = kind.record();
     }
     records
-}
-
-#[derive(Clone, Copy, PartialEq, Eq, Debug)]
-enum Answer {
-    None,
-    Accepted,
-    Refused(u8, usize, u8),
-}
-
-impl Answer {
-    fn of(fault: Fault) -> Answer {
-        Answer::Refused(fault.number(), fault.record(), fault.detail())
-    }
 }
 
 // How many tokens are passed. A token's record is one more than its place.
@@ -104,45 +91,45 @@ struct Model {
 }
 
 impl Model {
-    fn key(&mut self, kinds: &[Kind]) -> Answer {
+    fn key(&mut self, kinds: &[Kind]) -> Result<Option<()>, Refusal> {
         let Some(found) = kinds.get(self.passed) else {
-            return Answer::None;
+            return Ok(None);
         };
         let here = self.passed + 1;
         if *found != Kind::Name {
-            return Answer::Refused(10, here, 7);
+            return Err((10, here, 7));
         }
         match kinds.get(here) {
-            None => Answer::Refused(13, here, 0),
+            None => Err((13, here, 0)),
             Some(Kind::Is) => {
                 self.passed += 2;
-                Answer::Accepted
+                Ok(Some(()))
             }
-            _ => Answer::Refused(13, here + 1, 0),
+            _ => Err((13, here + 1, 0)),
         }
     }
 
     // A value read by a seed that takes one token of this kind.
-    fn value(&mut self, kinds: &[Kind], wanted: Kind, detail: u8) -> Answer {
+    fn value(&mut self, kinds: &[Kind], wanted: Kind, detail: u8) -> Result<(), Refusal> {
         let Some(found) = kinds.get(self.passed) else {
-            return Answer::Refused(11, self.passed, detail);
+            return Err((11, self.passed, detail));
         };
         let here = self.passed + 1;
         if *found != wanted {
-            return Answer::Refused(10, here, detail);
+            return Err((10, here, detail));
         }
         match kinds.get(here) {
             None => self.passed += 1,
             Some(Kind::Comma) => self.passed += 2,
-            _ => return Answer::Refused(14, here + 1, 0),
+            _ => return Err((14, here + 1, 0)),
         }
-        Answer::Accepted
+        Ok(())
     }
 
-    fn finish(&self, kinds: &[Kind]) -> Answer {
+    fn finish(&self, kinds: &[Kind]) -> Result<(), Refusal> {
         match kinds.get(self.passed) {
-            None => Answer::Accepted,
-            Some(_) => Answer::Refused(15, self.passed + 1, 0),
+            None => Ok(()),
+            Some(_) => Err((15, self.passed + 1, 0)),
         }
     }
 }
@@ -154,33 +141,33 @@ enum Turn {
     Over,
 }
 
-fn key_call(turn: KeyTurn, sheet: &Sheet) -> (Turn, Answer) {
+fn key_call(turn: KeyTurn, sheet: &Sheet) -> (Turn, Result<Option<()>, Refusal>) {
     match turn.next_key_seed(sheet, &Identifier) {
-        Ok(NextKey::None(turn)) => (Turn::Key(turn), Answer::None),
-        Ok(NextKey::Key(_, due)) => (Turn::Value(due), Answer::Accepted),
-        Err((turn, fault)) => (Turn::Key(turn), Answer::of(fault)),
+        Ok(NextKey::None(turn)) => (Turn::Key(turn), Ok(None)),
+        Ok(NextKey::Key(_, due)) => (Turn::Value(due), Ok(Some(()))),
+        Err((turn, fault)) => (Turn::Key(turn), Err(refusal(fault))),
     }
 }
 
-fn finish_call(turn: KeyTurn, sheet: &Sheet) -> (Turn, Answer) {
+fn finish_call(turn: KeyTurn, sheet: &Sheet) -> (Turn, Result<(), Refusal>) {
     match turn.finish(sheet) {
-        Ok(()) => (Turn::Over, Answer::Accepted),
-        Err((turn, fault)) => (Turn::Key(turn), Answer::of(fault)),
+        Ok(()) => (Turn::Over, Ok(())),
+        Err((turn, fault)) => (Turn::Key(turn), Err(refusal(fault))),
     }
 }
 
-fn number_call(due: ValueTurn, sheet: &Sheet) -> (Turn, Answer) {
-    match due.next_value_seed(sheet, &Signed::I64) {
-        Ok((_, turn)) => (Turn::Key(turn), Answer::Accepted),
-        Err((due, fault)) => (Turn::Value(due), Answer::of(fault)),
+fn value_call<S: Seed>(due: ValueTurn, sheet: &Sheet, seed: &S) -> (Turn, Result<(), Refusal>) {
+    match due.next_value_seed(sheet, seed) {
+        Ok((_, turn)) => (Turn::Key(turn), Ok(())),
+        Err((due, fault)) => (Turn::Value(due), Err(refusal(fault))),
     }
 }
 
-fn name_call(due: ValueTurn, sheet: &Sheet) -> (Turn, Answer) {
-    match due.next_value_seed(sheet, &Identifier) {
-        Ok((_, turn)) => (Turn::Key(turn), Answer::Accepted),
-        Err((due, fault)) => (Turn::Value(due), Answer::of(fault)),
-    }
+// The next turn, where the list answers as the model.
+fn checked<A: PartialEq + Debug + Drop>(rt: &impl Abort, call: (Turn, A), want: A) -> Turn {
+    let (next, answer) = call;
+    assert_eq!(rt; answer, want);
+    next
 }
 
 // Makes random calls on the list and on the model; answers whether the list was finished.
@@ -191,29 +178,27 @@ fn check_calls(
     records: &[Record],
 ) -> Result<bool, Fail> {
     let sheet = sheet_of(records);
-    assert_eq!(rt; sheet.count(), records.len(), "the records break a rule");
-    let Some(Tree::Group(_, body)) = sheet.tree(0) else {
-        return Err(Fail::new("no group"));
-    };
     let mut model = Model { passed: 0 };
-    let mut turn = Turn::Key(KeyTurn::within(body));
+    let mut turn = Turn::Key(KeyTurn::within(body_of(rt, &sheet, records)?));
     for _call in 0..20 {
         let seldom = random.once_in_eight();
-        let ((next, answer), want) = match turn {
-            Turn::Key(turn) if seldom => (finish_call(turn, &sheet), model.finish(kinds)),
-            Turn::Key(turn) => (key_call(turn, &sheet), model.key(kinds)),
-            Turn::Value(due) if seldom => (
-                name_call(due, &sheet),
+        turn = match turn {
+            Turn::Key(turn) if seldom => {
+                checked(rt, finish_call(turn, &sheet), model.finish(kinds))
+            }
+            Turn::Key(turn) => checked(rt, key_call(turn, &sheet), model.key(kinds)),
+            Turn::Value(due) if seldom => checked(
+                rt,
+                value_call(due, &sheet, &Identifier),
                 model.value(kinds, Kind::Name, 7),
             ),
-            Turn::Value(due) => (
-                number_call(due, &sheet),
+            Turn::Value(due) => checked(
+                rt,
+                value_call(due, &sheet, &Signed::I64),
                 model.value(kinds, Kind::Number, 2),
             ),
             Turn::Over => return Ok(true),
         };
-        assert_eq!(rt; answer, want);
-        turn = next;
     }
     Ok(false)
 }

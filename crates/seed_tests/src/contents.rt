@@ -10,22 +10,16 @@ use sheet::text::Pool;
 use std::process::Abort;
 use std::test::Fail;
 
-const SIGN: u64 = 0x8000_0000_0000_0000;
-
-fn name_at(start: usize, len: usize) -> Datum {
-    Datum::Text(TextPart {
-        pool: Pool::Names,
-        start,
-        len,
-    })
+fn text_in(pool: Pool, start: usize, len: usize) -> Datum {
+    Datum::Text(TextPart { pool, start, len })
 }
 
-fn string_at(start: usize, len: usize) -> Datum {
-    Datum::Text(TextPart {
-        pool: Pool::Strings,
-        start,
-        len,
-    })
+fn list_of(group: usize, count: usize) -> Datum {
+    Datum::List(Counted { group, count })
+}
+
+fn map_of(group: usize, count: usize) -> Datum {
+    Datum::Map(Counted { group, count })
 }
 
 // Content takes these records up to `last`, with this value, and ignored takes the same.
@@ -44,10 +38,10 @@ fn check_neither(rt: &impl Abort, records: &[Record], want: Refusal) -> Result<(
 fn one_token_is_content(rt: HostRuntime) -> Result<(), Fail> {
     check_both(&rt, &one(ident(0, 4)), Datum::Bool(true), 1)?;
     check_both(&rt, &one(ident(4, 5)), Datum::Bool(false), 1)?;
-    check_both(&rt, &one(ident(9, 6)), name_at(9, 6), 1)?;
-    check_both(&rt, &one(ident(15, 4)), name_at(15, 4), 1)?;
-    check_both(&rt, &one(ident(0, 0)), name_at(0, 0), 1)?;
-    check_both(&rt, &one(string(0, 4)), string_at(0, 4), 1)?;
+    check_both(&rt, &one(ident(9, 6)), text_in(Pool::Names, 9, 6), 1)?;
+    check_both(&rt, &one(ident(15, 4)), text_in(Pool::Names, 15, 4), 1)?;
+    check_both(&rt, &one(ident(0, 0)), text_in(Pool::Names, 0, 0), 1)?;
+    check_both(&rt, &one(string(0, 4)), text_in(Pool::Strings, 0, 4), 1)?;
     check_both(
         &rt,
         &one(char_literal(0x10ffff)),
@@ -67,20 +61,10 @@ fn groups_are_content(rt: HostRuntime) -> Result<(), Fail> {
     let is = punct(b'=');
     let comma = punct(b',');
     check_both(&rt, &[group(1, 1, 1), group(0, 2, 0)], Datum::Empty, 1)?;
-    check_both(
-        &rt,
-        &[group(1, 1, 1), group(2, 2, 0)],
-        Datum::List(Counted { group: 1, count: 0 }),
-        1,
-    )?;
-    check_both(
-        &rt,
-        &[group(1, 1, 1), group(1, 2, 0)],
-        Datum::Map(Counted { group: 1, count: 0 }),
-        1,
-    )?;
+    check_both(&rt, &[group(1, 1, 1), group(2, 2, 0)], list_of(1, 0), 1)?;
+    check_both(&rt, &[group(1, 1, 1), group(1, 2, 0)], map_of(1, 0), 1)?;
     let list = [group(1, 1, 1), group(0, 2, 4), one, comma, one, comma];
-    check_both(&rt, &list, Datum::List(Counted { group: 1, count: 2 }), 1)?;
+    check_both(&rt, &list, list_of(1, 2), 1)?;
     let map = [
         group(1, 1, 1),
         group(1, 2, 7),
@@ -92,7 +76,7 @@ fn groups_are_content(rt: HostRuntime) -> Result<(), Fail> {
         is,
         one,
     ];
-    check_both(&rt, &map, Datum::Map(Counted { group: 1, count: 2 }), 1)?;
+    check_both(&rt, &map, map_of(1, 2), 1)?;
     check_both(
         &rt,
         &[group(1, 1, 1), group(3, 2, 1), one],
@@ -156,8 +140,8 @@ fn groups_of_another_shape_are_no_content(rt: HostRuntime) -> Result<(), Fail> {
 // Record 0 and 32 brackets, each in the one before, the last one empty: the deepest sheet there is.
 fn deepest() -> [Record; 33] {
     let mut records = [group(2, 33, 0); 33];
-    for i in 0..32usize {
-        records[i] = group(2, i as u32 + 1, 1);
+    for (record, first) in records.iter_mut().zip(1..33u32) {
+        *record = group(2, first, 1);
     }
     records[0] = group(1, 1, 1);
     records
@@ -165,21 +149,11 @@ fn deepest() -> [Record; 33] {
 
 #[test]
 fn content_reaches_the_deepest_level(rt: HostRuntime) -> Result<(), Fail> {
-    check_both(
-        &rt,
-        &deepest(),
-        Datum::List(Counted { group: 1, count: 1 }),
-        1,
-    )?;
+    check_both(&rt, &deepest(), list_of(1, 1), 1)?;
     let mut less_deep = deepest();
     less_deep[31] = group(2, 32, 1);
     less_deep[32] = integer(1);
-    check_both(
-        &rt,
-        &less_deep,
-        Datum::List(Counted { group: 1, count: 1 }),
-        1,
-    )?;
+    check_both(&rt, &less_deep, list_of(1, 1), 1)?;
     let mut wrong = deepest();
     wrong[32] = punct(b'=');
     check_neither(&rt, &wrong, (10, 32, 15))

@@ -6,8 +6,6 @@ use std::test::Fail;
 
 const INFINITY: u64 = 0x7ff0_0000_0000_0000;
 
-const SIGN: u64 = 0x8000_0000_0000_0000;
-
 #[test]
 fn numbers_are_taken_by_their_bits(rt: HostRuntime) -> Result<(), Fail> {
     let cases = [

@@ -2,7 +2,7 @@
 use crate::build::*;
 use crate::reads::*;
 use access::map_access::{KeyTurn, NextKey, ValueTurn};
-use access::seq_access::{Elements, NextElement};
+use access::seq_access::Elements;
 use entries::entries::read_whole;
 use even::even::Even;
 use layout::record::Record;
@@ -11,7 +11,6 @@ use scalar::signed::Signed;
 use scalar::text::Identifier;
 use sheet::sheet::Sheet;
 use sheet::spot::Body;
-use sheet::tree::Tree;
 use std::process::Abort;
 use std::test::Fail;
 use token_de::fault::Fault;
@@ -26,37 +25,24 @@ fn root(count: u32) -> Record {
     group(1, 1, count)
 }
 
-// The body of record 0, where the sheet has all of the records.
-fn body_of(rt: &impl Abort, sheet: &Sheet, records: &[Record]) -> Result<Body, Fail> {
-    assert_eq!(rt; sheet.count(), records.len(), "the records break a rule");
-    match sheet.tree(0) {
-        Some(Tree::Group(_, body)) => Ok(body),
-        _ => Err(Fail::new("no group")),
-    }
-}
-
-fn refusal(fault: Fault) -> Refusal {
-    (fault.number(), fault.record(), fault.detail())
+// A call's answer; its refusal comes after so many reads.
+fn after<A, T: Drop>(reads: usize, answer: Result<A, (T, Fault)>) -> Result<A, (usize, Refusal)> {
+    answer.map_err(|(_, fault)| (reads, refusal(fault)))
 }
 
 // How many entries of names and signed integers a body has, or how many come before which refusal.
 fn count_entries(sheet: &Sheet, body: Body) -> Result<usize, (usize, Refusal)> {
     let mut turn = KeyTurn::within(body);
     for read in 0..9usize {
-        let due = match turn.next_key_seed(sheet, &Identifier) {
-            Ok(NextKey::Key(_, due)) => due,
-            Ok(NextKey::None(last)) => {
-                return match last.finish(sheet) {
-                    Ok(()) => Ok(read),
-                    Err((_, fault)) => Err((read, refusal(fault))),
-                };
+        let due = match after(read, turn.next_key_seed(sheet, &Identifier))? {
+            NextKey::Key(_, due) => due,
+            NextKey::None(last) => {
+                after(read, last.finish(sheet))?;
+                return Ok(read);
             }
-            Err((_, fault)) => return Err((read, refusal(fault))),
         };
-        turn = match due.next_value_seed(sheet, &Signed::I64) {
-            Ok((_, next)) => next,
-            Err((_, fault)) => return Err((read, refusal(fault))),
-        };
+        let (_, next) = after(read, due.next_value_seed(sheet, &Signed::I64))?;
+        turn = next;
     }
     Err((9, (0, 0, 0)))
 }
@@ -173,10 +159,9 @@ fn a_value_names_its_data_fault(rt: HostRuntime) -> Result<(), Fail> {
 fn count_elements(sheet: &Sheet, body: Body) -> Result<usize, (usize, Refusal)> {
     let mut left = Elements::within(body);
     for read in 0..9usize {
-        left = match left.next_element_seed(sheet, &Signed::I64) {
-            Ok(NextElement::Element(_, next)) => next,
-            Ok(NextElement::None(_)) => return Ok(read),
-            Err((_, fault)) => return Err((read, refusal(fault))),
+        left = match after(read, left.next_element_seed(sheet, &Signed::I64))? {
+            (Some(_), next) => next,
+            (None, _) => return Ok(read),
         };
     }
     Err((9, (0, 0, 0)))

@@ -1,5 +1,4 @@
 // Whole files, read as one value.
-use crate::build::BLANK;
 use content::any::AnyContent;
 use content::datum::{Counted, Datum};
 use layout::fault::LoadFault;
@@ -23,7 +22,7 @@ fn empty_brace() -> [u8; 44] {
 #[test]
 fn a_file_is_read_as_one_value_or_refused_by_load_or_read(rt: HostRuntime) -> Result<(), Fail> {
     let file = empty_brace();
-    let mut table: [Record; 2] = [BLANK; 2];
+    let mut table: [Record; 2] = [Record::default(); 2];
     let nothing = Datum::Map(Counted { group: 0, count: 0 });
     assert_eq!(rt; from_file(&file, &mut table, &AnyContent), Ok(nothing));
     assert_eq!(rt; table[0].kind, 3);

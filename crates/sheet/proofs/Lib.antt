@@ -1,4 +1,4 @@
-mod Clamped
 mod Made
 pub mod Lines
+pub mod Inputs
 pub mod Runs

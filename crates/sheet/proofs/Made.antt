@@ -1,6 +1,6 @@
 -- Which parts make a sheet. Assumes nothing.
 use Rattle.std.proofs.Common.{◌≡◌, ℕ, ◌≤◌, Bool, true, false, cond, ◌&&◌, leb, List, length, is_ok, Ok, Err, Result, sym, refl, ap, ◌∙◌, subst}
-use Rattle.std.proofs.lemmas.Bool.{and_parts, and_from, and_left, cond-true, leb-true, le-leb}
+use Rattle.std.proofs.lemmas.Bool.{and_parts, and_from, cond-true, leb-true, le-leb}
 use Rattle.layout.specs.declared.record.Record.{Record}
 use Rattle.layout.specs.declared.fault.LoadFault.{LoadFault}
 use Rattle.layout.specs.Rules.{Parts, limits, sized, Kept}
@@ -22,10 +22,6 @@ module _ (p : Parts) where
   unfolding kept
   kept_checked r yes_sized e = ok_faultless r ∙ ap faultless e
       ∙ ap (λ b. b && faultless (first_fault (length p.names) (length p.strings) 32 p.records)) (sym yes_sized)
-
-  pub kept_unsized : sized limits (length p.records) (length p.names) (length p.strings) ≡ false → false ≡ kept limits p
-  unfolding kept
-  kept_unsized no_size = sym (and_left _ _ no_size)
 
 module _ (n : ℕ) (table : List Record) (ns ss : List ℕ) where
   pub made : Made n table ns ss (sheet_of n table ns ss)

@@ -1,10 +1,9 @@
 -- The runs of a sheet, and what it has of a spot. Assumes nothing.
-use Rattle.std.proofs.Common.{◌≡◌, ℕ, zero, suc, ◌+◌, ◌<◌, ◌≤◌, true, false, ◌&&◌, ◌||◌, ltb, leb, List, [], ◌∷◌, length, drop, None, sym, ap, ◌∙◌, inl, inr, ⊎_elim, arith}
-use Rattle.std.proofs.lemmas.List.{at_drop_more}
-use Rattle.std.proofs.lemmas.Bool.{leb-true, le-leb, lt-leb, ltb-true, and_parts, or_cases, or_left, or_right, cond-true, cond-false, cond_both}
+use Rattle.std.proofs.Common.{◌≡◌, refl, subst, Bool, ℕ, zero, suc, ◌+◌, ◌<◌, ◌≤◌, true, false, ltb, leb, List, [], ◌∷◌, length, None, sym, inl, inr, ⊎_elim, arith}
+use Rattle.std.proofs.lemmas.Bool.{leb-true, le-leb, ltb-true, and_parts, and_from, or_cases, or_left, or_right, cond-true, cond-false, cond_both}
 use Rattle.std.proofs.lemmas.Bool.Decides.{nat_tests}
 use Rattle.layout.specs.declared.record.Record.{Record}
-use Rattle.layout.specs.Rules.{Parts, limits, no_record, entry, group}
+use Rattle.layout.specs.Rules.{Parts, limits, entry, group}
 use Rattle.layout.specs.Scan.{kept}
 use Rattle.layout.proofs.Scans.{kept_rules}
 use Rattle.sheet.specs.declared.spot.Spot.{Spot}
@@ -17,10 +16,6 @@ one_holds [] g p e lt ok = absurd (omega arith)
 one_holds (r ∷ rs) zero p e lt ok = or_left _ _ ok
 one_holds (r ∷ rs) (suc g) p e lt ok = or_right (holds r p e) _ (one_holds rs g p e (omega arith) ok)
 
--- a record that does not hold them is passed over
-pub holds_more : (rs : List Record) (i p e : ℕ) → i < length rs → holds (entry rs i) p e ≡ false → some_holds (drop i rs) p e ≡ some_holds (drop (i + 1) rs) p e
-holds_more rs i p e lt none = at_drop_more (λ (xs : List Record). some_holds xs p e) rs i no_record lt ∙ ap (λ b. b || some_holds (drop (i + 1) rs) p e) none
-
 -- and which one does
 pub which_holds : (rs : List Record) (p e : ℕ) → some_holds rs p e ≡ true → (g : ℕ) × (g < length rs) × (holds (entry rs g) p e ≡ true)
 which_holds [] p e ok = absurd (let z : ◌≡◌ {A = ℕ} 0 1 = cc in omega arith)
@@ -29,23 +24,7 @@ which_holds (r ∷ rs) p e ok = ⊎_elim
     (λ later. let w = which_holds rs p e later in (suc w.0, omega (arith, w.1), w.2))
     (or_cases (holds r p e) (some_holds rs p e) ok)
 
--- the test of a run, step by step
-module _ (h : Parts) (p e : ℕ) where
-  pub run_backward : e < p → false ≡ is_run h p e
-  unfolding is_run
-  run_backward lt = grind (arith, nat_tests)
-
-  pub run_root : p ≤ e → e ≤ 1 → true ≡ is_run h p e
-  unfolding is_run
-  run_root le low = grind (arith, nat_tests)
-
-  pub run_some : p ≤ e → 1 < e → some_holds h.records p e ≡ is_run h p e
-  unfolding is_run
-  run_some le high = sym (ap (λ b. b && (leb e 1 || some_holds h.records p e)) (le-leb p e le) ∙ ap (λ b. b || some_holds h.records p e) (lt-leb e 1 high))
-
-  pub run_found : (g : ℕ) → p ≤ e → 1 < e → (ltb g (length h.records) && holds (entry h.records g) p e) ≡ true → true ≡ is_run h p e
-  run_found g le high ok = let two = and_parts (ltb g (length h.records)) _ ok in sym (one_holds h.records g p e (ltb-true g (length h.records) two.0) two.1) ∙ run_some le high
-
+-- the test of a run
 pub run_is : (h : Parts) (p e : ℕ) → is_run h p e ≡ true → Run h p e
 unfolding is_run
 run_is h p e ok =
@@ -54,6 +33,13 @@ run_is h p e ok =
       order = leb-true p e two.0;
       within = ⊎_elim (λ low. inl (leb-true e 1 low)) (λ some. inr (which_holds h.records p e some)) (or_cases (leb e 1) _ two.1);
     }
+
+pub run_test : (h : Parts) (p e : ℕ) → Run h p e → is_run h p e ≡ true
+unfolding is_run
+run_test h p e r = and_from _ _ (le-leb p e r.order) (⊎_elim
+    (λ (low : e ≤ 1). or_left (leb e 1) _ (le-leb e 1 low))
+    (λ b. or_right (leb e 1) _ (one_holds h.records b.0 p e b.1 b.2))
+    r.within)
 
 -- a part of a run is a run
 pub run_part : (h : Parts) (p e q f : ℕ) → Run h p e → p ≤ q → q ≤ f → f ≤ e → Run h q f
@@ -68,6 +54,10 @@ run_part h p e q f r low mid high = record {
 -- a sheet has a record 0
 pub has_root : (h : Parts) → kept limits h ≡ true → 0 < length h.records
 has_root h lawful = let sizes = (kept_rules limits h lawful).sizes in grind (arith, nat_tests)
+
+-- and at most 1024 of them
+pub few_records : (h : Parts) → kept limits h ≡ true → length h.records ≤ 1024
+few_records h lawful = let sizes = (kept_rules limits h lawful).sizes in grind (arith, nat_tests)
 
 -- a run ends inside its sheet
 pub run_fits : (h : Parts) (p e : ℕ) → kept limits h ≡ true → Run h p e → e ≤ length h.records
@@ -108,3 +98,11 @@ module _ (h : Parts) (s : Spot) (lawful : kept limits h ≡ true) where
     within = omega arith;
     passed = tt;
   }
+
+-- a rest ends inside its sheet
+pub rest_inside : (h : Parts) (s : Spot) → kept limits h ≡ true → (rest h s).to ≤ length h.records
+rest_inside h s lawful = go (stands h s) refl
+  where
+    go : (b : Bool) → stands h s ≡ b → (rest h s).to ≤ length h.records
+    go true on = let r = rest_full h s lawful on in subst (λ (x : Rest). x.to ≤ length h.records) r.is r.within
+    go false off = let r = rest_nothing h s lawful off in subst (λ (x : Rest). x.to ≤ length h.records) r.is r.within

@@ -1,5 +1,6 @@
 -- Runs of a sheet, and what a sheet has of a spot. Assumes nothing.
-use Rattle.std.specs.Prelude.{◌≡◌, ℕ, ◌+◌, ◌-◌, ◌<◌, ◌≤◌, Bool, true, false, cond, ◌&&◌, ◌||◌, ◌⊎◌, List, [], ◌∷◌, length, Some, None, Option, nat_le, nat_lt}
+use Rattle.std.specs.Prelude.{◌≡◌, ℕ, ◌+◌, ◌-◌, ◌<◌, ◌≤◌, Bool, true, cond, ◌&&◌, ◌||◌, ◌⊎◌, List, length, Some, None, Option, nat_le, nat_lt}
+use Rattle.std.specs.List.{list_any}
 use Rattle.layout.specs.declared.record.Record.{Record}
 use Rattle.layout.specs.Rules.{Parts, entry, group}
 use Rattle.sheet.specs.declared.token.Group.{Group}
@@ -18,8 +19,7 @@ pub record Run (h : Parts) (p e : ℕ) : Type 0 where
 
 -- the same as a test
 abbrev pub some_holds : List Record → ℕ → ℕ → Bool
-some_holds [] p e = false
-some_holds (r ∷ rs) p e = holds r p e || some_holds rs p e
+some_holds rs p e = list_any (λ r. holds r p e) rs
 
 unfoldable pub is_run : Parts → ℕ → ℕ → Bool
 is_run h p e = nat_le p e && (nat_le e 1 || some_holds h.records p e)

@@ -2,7 +2,7 @@
 use Rattle.std.specs.Prelude.{ℕ, cond, List, length, Some, None, Option, nat_lt}
 use Rattle.std.specs.Option.{option_map}
 use Rattle.layout.specs.Rules.{Parts}
-use Rattle.sheet.specs.declared.token.Delimiter.{Delimiter}
+use Rattle.layout.specs.declared.kind.Delimiter.{Delimiter}
 use Rattle.sheet.specs.declared.token.Punct.{Punct}
 use Rattle.sheet.specs.declared.token.Literal.{Literal}
 use Rattle.sheet.specs.declared.token.Token.{Token}

@@ -4,16 +4,16 @@ ghost use Rattle.sheet.specs.Spots.{at_root, at_body, at_rest, past, body_of};
 use crate::token::Group;
 
 // The body of a group: the group's record, and the records from `from` up to `to`.
-#[derive(Clone, Copy)]
+#[derive(Clone, Copy, PartialEq, Eq, Debug)]
 pub struct Body {
-    parent: usize,
-    from: usize,
-    to: usize,
+    pub(crate) parent: usize,
+    pub(crate) from: usize,
+    pub(crate) to: usize,
 }
 
 // Where a cursor stands, in plain numbers and with no sheet: its run is the records from `first` up to `end`,
 // which lay in the body of `group` in the sheet that it was begun on.
-#[derive(Clone, Copy, PartialEq, Eq)]
+#[derive(Clone, Copy, PartialEq, Eq, Debug)]
 pub struct Spot {
     pub(crate) group: usize,
     pub(crate) first: usize,
@@ -22,7 +22,7 @@ pub struct Spot {
 }
 
 // What a sheet has of a spot: the rest of its run, and the last token passed.
-#[derive(Clone, Copy)]
+#[derive(Clone, Copy, PartialEq, Eq, Debug)]
 pub struct Rest {
     pub from: usize,
     pub to: usize,

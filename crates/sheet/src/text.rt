@@ -6,7 +6,7 @@ pub enum Pool {
 }
 
 // A text: the pool that it is a part of, its first byte there, and its bytes.
-#[derive(Clone, Copy)]
+#[derive(Clone, Copy, PartialEq, Eq, Debug)]
 pub struct Text<'a> {
     pub pool: Pool,
     pub start: usize,

@@ -2,17 +2,10 @@ ghost use Rattle.std.specs.Prelude.{◌≡◌, true, if◌then◌else◌, Some, 
 ghost use Rattle.layout.specs.Rules.{is_punct, is_scalar};
 ghost use Rattle.sheet.specs.Tokens.{scalar_char, delimiter_of, literal_of, part_of, token_of};
 
+pub use layout::kind::Delimiter;
+use layout::kind::{Kind, LiteralKind};
 use layout::record::Record;
 use layout::rules::is_punct;
-
-// What encloses a group's body; an invisible group has no marks in the source.
-#[derive(Clone, Copy, PartialEq, Eq, Debug)]
-pub enum Delimiter {
-    Parenthesis,
-    Brace,
-    Bracket,
-    Invisible,
-}
 
 // A punctuation mark, one of `= < > ! ~ + - * / % ^ & | @ . , ; : # $ ? '`.
 #[derive(Clone, Copy, PartialEq, Eq, Debug)]
@@ -75,11 +68,7 @@ impl Punct {
     pub fn new(code: u8) -> Option<Punct>
         ensures { result ≡ (if is_punct code then Some (record { code = code }) else None) }
     {
-        if is_punct(code) {
-            Some(Punct { code })
-        } else {
-            None
-        }
+        is_punct(code).then_some(Punct { code })
     }
 
     pub fn as_char(self) -> char
@@ -92,20 +81,18 @@ impl Punct {
 fn delimiter_of(sub: u8) -> Delimiter
     ensures { result ≡ delimiter_of sub }
 {
-    match sub {
-        0 => Delimiter::Parenthesis,
-        1 => Delimiter::Brace,
-        2 => Delimiter::Bracket,
-        _ => Delimiter::Invisible,
-    }
+    Delimiter::try_from(sub).unwrap_or(Delimiter::Invisible)
 }
 
-fn part_of(record: &Record) -> Part
-    ensures { result ≡ part_of «record».now }
-{
-    Part {
-        start: record.a as usize,
-        len: record.b as usize,
+// The part of a pool that a record's text is.
+impl From<&Record> for Part {
+    ghost from_gives = { λ r part. part ≡ part_of r.now };
+
+    fn from(record: &Record) -> Part {
+        Part {
+            start: record.a as usize,
+            len: record.b as usize,
+        }
     }
 }
 
@@ -121,42 +108,32 @@ fn literal_of(record: &Record) -> Literal
     requires { scalar_char «record».now }
     ensures { result ≡ literal_of «record».now }
 {
-    match record.sub {
-        1 => Literal::ByteString,
-        2 => Literal::CString,
-        3 => Literal::Byte,
-        4 => Literal::Char(char_of(record.value)),
-        5 => {
-            let magnitude = if record.mark == 0 {
-                Some(record.value)
-            } else {
-                None
-            };
-            Literal::Integer(Integer {
-                magnitude,
-                bits: record.bits,
-            })
-        }
-        6 => Literal::Float(record.bits),
+    match LiteralKind::try_from(record.sub) {
+        Ok(LiteralKind::ByteString) => Literal::ByteString,
+        Ok(LiteralKind::CString) => Literal::CString,
+        Ok(LiteralKind::Byte) => Literal::Byte,
+        Ok(LiteralKind::Char) => Literal::Char(char_of(record.value)),
+        Ok(LiteralKind::Integer) => Literal::Integer(Integer {
+            magnitude: (record.mark == 0).then_some(record.value),
+            bits: record.bits,
+        }),
+        Ok(LiteralKind::Float) => Literal::Float(record.bits),
         _ => Literal::Other,
     }
 }
 
-// What a record of a sheet means.
+// What a record of a sheet means. A `From` could not ask that the record keeps the rules.
 pub(crate) fn token_of(record: &Record) -> Token
     requires { «record».now.kind ≡ 2 → scalar_char «record».now }
     ensures { result ≡ token_of «record».now }
 {
-    match record.kind {
-        0 => Token::Ident(part_of(record)),
-        1 => Token::Punct(Punct { code: record.sub }),
-        2 => {
-            if record.sub == 0 {
-                Token::String(part_of(record))
-            } else {
-                Token::Literal(literal_of(record))
-            }
-        }
+    match Kind::try_from(record.kind) {
+        Ok(Kind::Ident) => Token::Ident(Part::from(record)),
+        Ok(Kind::Punct) => Token::Punct(Punct { code: record.sub }),
+        Ok(Kind::Literal) => match LiteralKind::try_from(record.sub) {
+            Ok(LiteralKind::String) => Token::String(Part::from(record)),
+            _ => Token::Literal(literal_of(record)),
+        },
         _ => Token::Group(Group {
             delimiter: delimiter_of(record.sub),
             first: record.a as usize,

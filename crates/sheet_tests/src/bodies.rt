@@ -9,12 +9,12 @@ use std::test::Fail;
 #[test]
 fn record_0_is_a_brace_round_all(rt: HostRuntime) -> Result<(), Fail> {
     let heap = rt.alloc();
-    assert_eq!(rt; refusal_of(heap, &[brace(1, 1), BLANK])?, None);
+    assert_eq!(rt; refusal_of(heap, &[brace(1, 1), Record::default()])?, None);
     let roots = [
         group(0, 1, 1),
         group(2, 1, 1),
         group(3, 1, 1),
-        BLANK,
+        Record::default(),
         punct(b'='),
         literal(7),
         brace(0, 1),
@@ -23,7 +23,7 @@ fn record_0_is_a_brace_round_all(rt: HostRuntime) -> Result<(), Fail> {
     ];
     for root in roots {
         assert_eq!(rt;
-            refusal_of(heap, &[root, BLANK])?,
+            refusal_of(heap, &[root, Record::default()])?,
             Some(LoadFault::Misplaced(0)),
             "{root:?}"
         );
@@ -39,7 +39,7 @@ fn check_bodies(
     second: Record,
     want: Option<LoadFault>,
 ) -> Result<(), Fail> {
-    let records = [brace(1, 2), first, second, BLANK];
+    let records = [brace(1, 2), first, second, Record::default()];
     assert_eq!(rt; refusal_of(heap, &records)?, want, "{first:?}, {second:?}");
     Ok(())
 }
@@ -66,7 +66,11 @@ fn bodies_follow_each_other(rt: HostRuntime) -> Result<(), Fail> {
         ),
         // a body that is too short, so that the last record lies in none
         (brace(3, 0), brace(3, 0), Some(LoadFault::Misplaced(3))),
-        (BLANK, BLANK, Some(LoadFault::Misplaced(3))),
+        (
+            Record::default(),
+            Record::default(),
+            Some(LoadFault::Misplaced(3)),
+        ),
     ];
     for (first, second, want) in cases {
         check_bodies(&rt, heap, first, second, want)?;
@@ -77,7 +81,10 @@ fn bodies_follow_each_other(rt: HostRuntime) -> Result<(), Fail> {
 #[test]
 fn first_fault_is_named(rt: HostRuntime) -> Result<(), Fail> {
     let heap = rt.alloc();
-    let unknown = Record { kind: 4, ..BLANK };
+    let unknown = Record {
+        kind: 4,
+        ..Record::default()
+    };
     let cases = [
         // off its line and misplaced
         (group(4, 9, 9), brace(3, 1), LoadFault::OffLine(1)),
@@ -102,7 +109,10 @@ fn check_deep(rt: &impl Abort, heap: Global, deep: &[Record], want: LoadFault) -
 #[test]
 fn depth_is_looked_at_last(rt: HostRuntime) -> Result<(), Fail> {
     let heap = rt.alloc();
-    let unknown = Record { kind: 4, ..BLANK };
+    let unknown = Record {
+        kind: 4,
+        ..Record::default()
+    };
     check_deep(&rt, heap, &[unknown], LoadFault::OffLine(33))?;
     check_deep(&rt, heap, &[brace(33, 0)], LoadFault::Misplaced(33))?;
     check_deep(&rt, heap, &[brace(34, 1), unknown], LoadFault::TooDeep(33))

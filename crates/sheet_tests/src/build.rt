@@ -1,30 +1,23 @@
 // Makes records and files for the tests, and loads them.
+// The other test crate has makers like these: a crate for both would need contracts for test data.
 use layout::fault::LoadFault;
 use layout::record::Record;
 use load::load::load;
 use std::alloc::{AllocError, Global};
 
-// An identifier without bytes; the other records are made from it.
-pub const BLANK: Record = Record {
-    kind: 0,
-    sub: 0,
-    mark: 0,
-    a: 0,
-    b: 0,
-    place: 0,
-    value: 0,
-    bits: 0,
-};
-
 pub fn ident(a: u32, b: u32) -> Record {
-    Record { a, b, ..BLANK }
+    Record {
+        a,
+        b,
+        ..Record::default()
+    }
 }
 
 pub fn punct(code: u8) -> Record {
     Record {
         kind: 1,
         sub: code,
-        ..BLANK
+        ..Record::default()
     }
 }
 
@@ -32,7 +25,7 @@ pub fn literal(sub: u8) -> Record {
     Record {
         kind: 2,
         sub,
-        ..BLANK
+        ..Record::default()
     }
 }
 
@@ -66,7 +59,7 @@ pub fn group(sub: u8, a: u32, b: u32) -> Record {
         sub,
         a,
         b,
-        ..BLANK
+        ..Record::default()
     }
 }
 
@@ -126,11 +119,8 @@ pub fn refusal_with(
     bytes: &[u8],
     places: usize,
 ) -> Result<Option<LoadFault>, AllocError> {
-    let mut table = vec![in heap; BLANK; places]?;
-    match load(bytes, table.as_mut_slice()) {
-        Ok(_) => Ok(None),
-        Err(fault) => Ok(Some(fault)),
-    }
+    let mut table = vec![in heap; Record::default(); places]?;
+    Ok(load(bytes, table.as_mut_slice()).err())
 }
 
 // The same with a table that is large enough for every file.
@@ -151,18 +141,13 @@ pub fn refusal_of_one(heap: Global, record: Record) -> Result<Option<LoadFault>,
 
 // A brace with identifiers as its body, so many records in all.
 pub fn flat(heap: Global, count: usize) -> Result<Vec<Record>, AllocError> {
-    let mut records = vec![in heap; brace(1, number(count.saturating_sub(1)))]?;
-    for _ in 1..count {
-        records.push(BLANK)?;
-    }
+    let idents = count.saturating_sub(1);
+    let mut records = vec![in heap; brace(1, number(idents))]?;
+    records.resize(1 + idents, Record::default())?;
     Ok(records)
 }
 
 // Braces, each the body of the one before it: record i has depth i, for each i below `depth`.
 pub fn nest(heap: Global, depth: u32) -> Result<Vec<Record>, AllocError> {
-    let mut records = Vec::new(heap);
-    for i in 0..depth {
-        records.push(brace(i + 1, 1))?;
-    }
-    Ok(records)
+    (1..=depth).map(|first| brace(first, 1)).collect(heap)
 }

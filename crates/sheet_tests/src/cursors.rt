@@ -31,40 +31,15 @@ const SHOWN: [Seen<'static>; 12] = [
     Seen::Group(Delimiter::Parenthesis, 12, 13, 15),
 ];
 
-// A cursor at the start of the body of a record.
-fn inside(sheet: &Sheet, record: usize) -> Result<TokenDe, Fail> {
-    match sheet.tree(record) {
-        Some(Tree::Group(_, body)) => Ok(TokenDe::within(body)),
-        _ => Err(Fail::new("no group")),
-    }
+// The record and its tree, as `peek` and `next` answer them.
+fn view_at(found: Option<(usize, Tree)>) -> Option<(usize, Seen)> {
+    found.map(|(record, tree)| (record, Seen::from(tree)))
 }
 
 // The next token of a cursor is this one: it is peeked at, passed, and then the last one passed.
 fn check_next(rt: &impl Abort, cursor: &mut TokenDe, sheet: &Sheet, record: usize, want: Seen) {
     assert_eq!(rt; view_at(cursor.peek(sheet)), Some((record, want)));
     assert_eq!(rt; view_at(cursor.next(sheet)), Some((record, want)));
-    assert_eq!(rt; cursor.last(sheet), Some(record));
-}
-
-// The delimiter of a group and the bounds of its body, where the body says that it is this record's.
-fn group_at(found: Option<(usize, Tree)>, record: usize) -> Option<(Delimiter, usize, usize)> {
-    match found {
-        Some((at, Tree::Group(delimiter, body))) if at == record && body.parent() == record => Some(
-            (delimiter, body.from(), body.to()),
-        ),
-        _ => None,
-    }
-}
-
-fn check_next_group(
-    rt: &impl Abort,
-    cursor: &mut TokenDe,
-    sheet: &Sheet,
-    record: usize,
-    want: (Delimiter, usize, usize),
-) {
-    assert_eq!(rt; group_at(cursor.peek(sheet), record), Some(want));
-    assert_eq!(rt; group_at(cursor.next(sheet), record), Some(want));
     assert_eq!(rt; cursor.last(sheet), Some(record));
 }
 
@@ -96,12 +71,15 @@ fn groups_show_their_bodies(rt: HostRuntime) -> Result<(), Fail> {
     let sheet = Sheet::new(15, &records, NAMES, STRINGS);
     let mut root = TokenDe::new();
     assert_eq!(rt; root.last(&sheet), None);
-    check_next_group(&rt, &mut root, &sheet, 0, (Delimiter::Brace, 1, 13));
+    let brace = Seen::Group(Delimiter::Brace, 0, 1, 13);
+    check_next(&rt, &mut root, &sheet, 0, brace);
     check_end(&rt, &mut root, &sheet, Some(0));
     let mut inner = inside(&sheet, 12)?;
     assert_eq!(rt; inner.last(&sheet), None);
-    check_next_group(&rt, &mut inner, &sheet, 13, (Delimiter::Bracket, 15, 15));
-    check_next_group(&rt, &mut inner, &sheet, 14, (Delimiter::Invisible, 15, 15));
+    let bracket = Seen::Group(Delimiter::Bracket, 13, 15, 15);
+    check_next(&rt, &mut inner, &sheet, 13, bracket);
+    let invisible = Seen::Group(Delimiter::Invisible, 14, 15, 15);
+    check_next(&rt, &mut inner, &sheet, 14, invisible);
     check_end(&rt, &mut inner, &sheet, Some(14));
     check_end(&rt, &mut inside(&sheet, 13)?, &sheet, None);
     check_end(&rt, &mut inside(&sheet, 14)?, &sheet, None);

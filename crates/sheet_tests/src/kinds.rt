@@ -1,8 +1,11 @@
-// A tree as tests compare it, and a sheet with every kind of token.
+// A tree as tests compare it, the cursor in a body, and a sheet with every kind of token.
 use crate::build::*;
 use layout::record::Record;
+use sheet::sheet::Sheet;
 use sheet::token::{Delimiter, Literal};
 use sheet::tree::Tree;
+use std::test::Fail;
+use token_de::cursor::TokenDe;
 
 // A tree with the bounds of a group's body as numbers: its group, its first record and the one behind its last.
 #[derive(Clone, Copy, PartialEq, Debug)]
@@ -14,26 +17,28 @@ pub enum Seen<'a> {
     Group(Delimiter, usize, usize, usize),
 }
 
-pub fn view(tree: Tree) -> Seen {
-    match tree {
-        Tree::Ident(name) => Seen::Ident(name),
-        Tree::String(text) => Seen::String(text),
-        Tree::Punct(punct) => Seen::Punct(punct.as_char()),
-        Tree::Literal(literal) => Seen::Literal(literal),
-        Tree::Group(delimiter, body) => Seen::Group(
-            delimiter,
-            body.parent(),
-            body.from(),
-            body.to(),
-        ),
+impl<'a> From<Tree<'a>> for Seen<'a> {
+    fn from(tree: Tree<'a>) -> Seen<'a> {
+        match tree {
+            Tree::Ident(name) => Seen::Ident(name),
+            Tree::String(text) => Seen::String(text),
+            Tree::Punct(punct) => Seen::Punct(punct.as_char()),
+            Tree::Literal(literal) => Seen::Literal(literal),
+            Tree::Group(delimiter, body) => Seen::Group(
+                delimiter,
+                body.parent(),
+                body.from(),
+                body.to(),
+            ),
+        }
     }
 }
 
-// The record and its tree, as `peek` and `next` answer them.
-pub fn view_at(found: Option<(usize, Tree)>) -> Option<(usize, Seen)> {
-    match found {
-        Some((record, tree)) => Some((record, view(tree))),
-        None => None,
+// A cursor at the start of the body of a record.
+pub fn inside(sheet: &Sheet, record: usize) -> Result<TokenDe, Fail> {
+    match sheet.tree(record) {
+        Some(Tree::Group(_, body)) => Ok(TokenDe::within(body)),
+        _ => Err(Fail::new("no group")),
     }
 }
 

@@ -13,11 +13,7 @@ const INFINITY: u64 = 0x7ff0_0000_0000_0000;
 
 // A brace with this record as its body loads, or is refused at it.
 fn check_line(rt: &impl Abort, heap: Global, record: Record, taken: bool) -> Result<(), Fail> {
-    let want = if taken {
-        None
-    } else {
-        Some(LoadFault::OffLine(1))
-    };
+    let want = (!taken).then_some(LoadFault::OffLine(1));
     assert_eq!(rt; refusal_of_one(heap, record)?, want, "{record:?}");
     Ok(())
 }
@@ -43,7 +39,7 @@ fn kinds_and_literals_and_groups_are_few(rt: HostRuntime) -> Result<(), Fail> {
             kind: code,
             sub: 1,
             a: 2,
-            ..BLANK
+            ..Record::default()
         };
         check_line(&rt, heap, record, matches!(code, 0 | 2 | 3))?;
         check_line(&rt, heap, literal(code), code <= 7)?;
@@ -154,30 +150,18 @@ fn unused_fields_are_free(rt: HostRuntime) -> Result<(), Fail> {
         value: u64::MAX,
         bits: u64::MAX,
     };
-    check_line(&rt, heap, Record { a: 1, b: 3, ..full }, true)?;
-    check_line(
-        &rt,
-        heap,
+    let lawful = [
+        Record { a: 1, b: 3, ..full },
         Record {
             kind: 1,
             sub: b'=',
             ..full
         },
-        true,
-    )?;
-    check_line(
-        &rt,
-        heap,
         Record {
             kind: 2,
             sub: 7,
             ..full
         },
-        true,
-    )?;
-    check_line(
-        &rt,
-        heap,
         Record {
             kind: 3,
             sub: 3,
@@ -185,6 +169,9 @@ fn unused_fields_are_free(rt: HostRuntime) -> Result<(), Fail> {
             b: 0,
             ..full
         },
-        true,
-    )
+    ];
+    for record in lawful {
+        check_line(&rt, heap, record, true)?;
+    }
+    Ok(())
 }

@@ -13,51 +13,47 @@ const EMPTY_BRACE: Token = Token::Group(Group {
     count: 0,
 });
 
-// The sheet of these parts is an empty brace.
-fn check_empty<'a>(
-    rt: &impl Abort,
-    count: usize,
-    table: &'a [Record],
-    names: &'a [u8],
-    strings: &'a [u8],
-    case: &str,
-) {
-    let sheet = Sheet::new(count, table, names, strings);
-    assert_eq!(rt; sheet.count(), 1, "{}", case);
-    assert_eq!(rt; sheet.token(0), Some(EMPTY_BRACE), "{}", case);
-    assert_eq!(rt; sheet.place(0), Some(0), "{}", case);
-    assert!(rt;
-        sheet.token(1).is_none() && sheet.tree(1).is_none() && sheet.place(1).is_none(),
-        "{}",
-        case
-    );
-}
-
-#[test]
-fn parts_that_break_a_rule_make_an_empty_brace(rt: HostRuntime) -> Result<(), Fail> {
-    let records = [
+// A brace round an identifier of one byte and one without bytes; the brace has a place in the source.
+fn placed() -> [Record; 3] {
+    [
         Record {
             place: 5,
             ..brace(1, 2)
         },
         ident(0, 1),
-        BLANK,
-    ];
-    check_empty(
-        &rt,
-        4,
-        &records,
-        b"a",
-        b"",
-        "more records than the table has",
+        Record::default(),
+    ]
+}
+
+// The sheet is an empty brace.
+fn check_empty(rt: &impl Abort, sheet: &Sheet, case: &str) {
+    assert_eq!(rt; sheet.count(), 1, "{case}");
+    assert_eq!(rt; sheet.token(0), Some(EMPTY_BRACE), "{case}");
+    assert_eq!(rt; sheet.place(0), Some(0), "{case}");
+    assert!(rt;
+        sheet.token(1).is_none() && sheet.tree(1).is_none() && sheet.place(1).is_none(),
+        "{case}"
     );
-    check_empty(&rt, usize::MAX, &records, b"a", b"", "far more records");
-    check_empty(&rt, 0, &records, b"a", b"", "no record");
-    check_empty(&rt, 2, &records, b"a", b"", "a body past the records");
-    check_empty(&rt, 3, &records, b"", b"", "a name past the names");
+}
+
+#[test]
+fn parts_that_break_a_rule_make_an_empty_brace(rt: HostRuntime) -> Result<(), Fail> {
+    let records = placed();
     let long = vec![in rt.alloc(); b'x'; 8193]?;
-    check_empty(&rt, 3, &records, long.as_slice(), b"", "too many names");
-    check_empty(&rt, 3, &records, b"a", long.as_slice(), "too many strings");
+    let name = b"a".as_slice();
+    let none = b"".as_slice();
+    let cases = [
+        (4, name, none, "more records than the table has"),
+        (usize::MAX, name, none, "far more records"),
+        (0, name, none, "no record"),
+        (2, name, none, "a body past the records"),
+        (3, none, none, "a name past the names"),
+        (3, long.as_slice(), none, "too many names"),
+        (3, name, long.as_slice(), "too many strings"),
+    ];
+    for (count, names, strings, case) in cases {
+        check_empty(&rt, &Sheet::new(count, &records, names, strings), case);
+    }
     Ok(())
 }
 
@@ -65,23 +61,19 @@ fn parts_that_break_a_rule_make_an_empty_brace(rt: HostRuntime) -> Result<(), Fa
 fn too_many_or_too_deep_records_make_an_empty_brace(rt: HostRuntime) -> Result<(), Fail> {
     let heap = rt.alloc();
     let many = flat(heap, 1025)?;
-    check_empty(&rt, 1025, many.as_slice(), b"", b"", "1025 records");
+    check_empty(
+        &rt,
+        &Sheet::new(1025, many.as_slice(), b"", b""),
+        "1025 records",
+    );
     let mut deep = nest(heap, 33)?;
-    deep.push(BLANK)?;
-    check_empty(&rt, 34, deep.as_slice(), b"", b"", "depth 33");
+    deep.push(Record::default())?;
+    check_empty(&rt, &Sheet::new(34, deep.as_slice(), b"", b""), "depth 33");
     Ok(())
 }
 
-// The sheet of these parts has all records, and the first of them at this place.
-fn check_held<'a>(
-    rt: &impl Abort,
-    count: usize,
-    table: &'a [Record],
-    names: &'a [u8],
-    strings: &'a [u8],
-    place: u32,
-) {
-    let sheet = Sheet::new(count, table, names, strings);
+// The sheet has so many records, and the first of them at this place.
+fn check_held(rt: &impl Abort, sheet: &Sheet, count: usize, place: u32) {
     assert_eq!(rt; sheet.count(), count);
     assert_eq!(rt; sheet.place(0), Some(place));
     assert!(rt; sheet.tree(count).is_none());
@@ -92,23 +84,10 @@ fn greatest_and_smaller_sheets_are_held(rt: HostRuntime) -> Result<(), Fail> {
     let heap = rt.alloc();
     let many = flat(heap, 1024)?;
     let pool = vec![in heap; b'x'; 8192]?;
-    check_held(
-        &rt,
-        1024,
-        many.as_slice(),
-        pool.as_slice(),
-        pool.as_slice(),
-        0,
-    );
-    let records = [
-        Record {
-            place: 5,
-            ..brace(1, 2)
-        },
-        ident(0, 1),
-        BLANK,
-    ];
-    check_held(&rt, 3, &records, b"a", b"", 5);
+    let greatest = Sheet::new(1024, many.as_slice(), pool.as_slice(), pool.as_slice());
+    check_held(&rt, &greatest, 1024, 0);
+    let records = placed();
+    check_held(&rt, &Sheet::new(3, &records, b"a", b""), 3, 5);
     Ok(())
 }
 

@@ -47,11 +47,7 @@ fn pools_have_up_to_8192_bytes(rt: HostRuntime) -> Result<(), Fail> {
         (8192, 8192, true),
     ];
     for (names, strings, taken) in cases {
-        let want = if taken {
-            None
-        } else {
-            Some(LoadFault::OutOfRange)
-        };
+        let want = (!taken).then_some(LoadFault::OutOfRange);
         assert_eq!(rt;
             refusal_of_pools(heap, names, strings)?,
             want,
@@ -135,23 +131,34 @@ fn refusal_below(
 #[test]
 fn depth_is_up_to_32(rt: HostRuntime) -> Result<(), Fail> {
     let heap = rt.alloc();
-    assert_eq!(rt; refusal_below(heap, 32, &[BLANK])?, None);
+    assert_eq!(rt; refusal_below(heap, 32, &[Record::default()])?, None);
     assert_eq!(rt;
         refusal_below(heap, 32, &[brace(33, 0)])?,
         None,
         "an empty brace at depth 32"
     );
     assert_eq!(rt;
-        refusal_below(heap, 33, &[BLANK])?,
+        refusal_below(heap, 33, &[Record::default()])?,
         Some(LoadFault::TooDeep(33))
     );
     // a brace at depth 31 with two records at depth 32, the second a brace with two records at depth 33
-    let last = [brace(32, 2), BLANK, brace(34, 2), BLANK, BLANK];
+    let last = [
+        brace(32, 2),
+        Record::default(),
+        brace(34, 2),
+        Record::default(),
+        Record::default(),
+    ];
     assert_eq!(rt;
         refusal_below(heap, 31, &last)?,
         Some(LoadFault::TooDeep(34))
     );
-    let last = [brace(32, 3), BLANK, brace(35, 0), BLANK];
+    let last = [
+        brace(32, 3),
+        Record::default(),
+        brace(35, 0),
+        Record::default(),
+    ];
     assert_eq!(rt; refusal_below(heap, 31, &last)?, None);
     Ok(())
 }
@@ -159,7 +166,12 @@ fn depth_is_up_to_32(rt: HostRuntime) -> Result<(), Fail> {
 #[test]
 fn table_has_a_place_for_each_record(rt: HostRuntime) -> Result<(), Fail> {
     let heap = rt.alloc();
-    let three = file(heap, &[brace(1, 2), BLANK, BLANK], b"", b"")?;
+    let three = file(
+        heap,
+        &[brace(1, 2), Record::default(), Record::default()],
+        b"",
+        b"",
+    )?;
     assert_eq!(rt; refusal_with(heap, three.as_slice(), 3)?, None);
     assert_eq!(rt;
         refusal_with(heap, three.as_slice(), 2)?,

@@ -95,7 +95,7 @@ fn refused_load_leaves_the_table(rt: HostRuntime) -> Result<(), Fail> {
     check_refused(&rt, heap, &[root, name, literal(8)], 4)?;
     check_refused(&rt, heap, &[root, name, brace(2, 0)], 5)?;
     let mut deep = nest(heap, 33)?;
-    deep.push(BLANK)?;
+    deep.push(Record::default())?;
     check_refused(&rt, heap, deep.as_slice(), 6)?;
     let many = flat(heap, 41)?;
     check_refused(&rt, heap, many.as_slice(), 7)

@@ -3,19 +3,10 @@ use crate::build::*;
 use crate::kinds::*;
 use sheet::sheet::Sheet;
 use sheet::text::Pool;
-use sheet::tree::Tree;
 use std::process::Abort;
 use std::test::Fail;
 use token_de::cursor::TokenDe;
 use token_de::fault::{Fault, Wanted};
-
-// A cursor at the start of the body of record 0.
-fn start(sheet: &Sheet) -> Result<TokenDe, Fail> {
-    match sheet.tree(0) {
-        Some(Tree::Group(_, body)) => Ok(TokenDe::within(body)),
-        _ => Err(Fail::new("no group")),
-    }
-}
 
 fn check_text(
     rt: &impl Abort,
@@ -61,7 +52,7 @@ fn names_and_strings_are_texts(rt: HostRuntime) -> Result<(), Fail> {
         string(6, 0),
     ];
     let sheet = Sheet::new(5, &records, NAMES, STRINGS);
-    let mut cursor = start(&sheet)?;
+    let mut cursor = inside(&sheet, 0)?;
     check_text(&rt, &mut cursor, &sheet, Pool::Names, 1, b"ame")?;
     assert_eq!(rt; cursor.last(&sheet), Some(1));
     check_text(&rt, &mut cursor, &sheet, Pool::Strings, 2, b"text")?;
@@ -77,7 +68,7 @@ fn other_tokens_are_no_text(rt: HostRuntime) -> Result<(), Fail> {
     let records = all_kinds();
     let sheet = Sheet::new(15, &records, NAMES, STRINGS);
     check_no_text(&rt, &mut TokenDe::new(), &sheet, 10, 0)?;
-    let mut cursor = start(&sheet)?;
+    let mut cursor = inside(&sheet, 0)?;
     let _ = cursor.next(&sheet);
     let _ = cursor.next(&sheet);
     for record in 3..=12usize {
@@ -91,7 +82,7 @@ fn other_tokens_are_no_text(rt: HostRuntime) -> Result<(), Fail> {
 fn no_text_is_left_in_an_empty_body(rt: HostRuntime) -> Result<(), Fail> {
     let records = [brace(1, 0)];
     let sheet = Sheet::new(1, &records, b"", b"");
-    check_no_text(&rt, &mut start(&sheet)?, &sheet, 11, 0)?;
+    check_no_text(&rt, &mut inside(&sheet, 0)?, &sheet, 11, 0)?;
     let mut root = TokenDe::new();
     assert!(rt; root.next(&sheet).is_some());
     check_no_text(&rt, &mut root, &sheet, 11, 0)?;

@@ -7,7 +7,7 @@ mod show;
 mod walk;
 
 use crate::failure::Failure;
-use crate::members::{Pools, print_members};
+use crate::members::print_members;
 use crate::walk::walk;
 use layout::limits::LIMITS;
 use layout::record::Record;
@@ -18,27 +18,12 @@ use std::io::Read;
 use std::process::ExitCode;
 use std::{env, io};
 
-// What a place of the record table holds before a load.
-const BLANK: Record = Record {
-    kind: 0,
-    sub: 0,
-    mark: 0,
-    a: 0,
-    b: 0,
-    place: 0,
-    value: 0,
-    bits: 0,
-};
-
 // One byte more than the longest sheet: of a longer file no more is read, and it is refused all the same.
 const ENOUGH: usize = 12 + 32 * LIMITS.records + LIMITS.names + LIMITS.strings + 1;
 
 // The one argument of the program, a path.
 fn path_given(rt: &HostRuntime) -> Result<String, Failure> {
-    let mut args = match env::args(rt) {
-        Ok(args) => args,
-        Err(error) => return Err(Failure::Arguments(error)),
-    };
+    let mut args = env::args(rt).map_err(Failure::Arguments)?;
     let _program = args.next();
     match (args.next(), args.next()) {
         (Some(path), None) => Ok(path),
@@ -54,10 +39,7 @@ fn read_enough(rt: &HostRuntime, path: &str) -> io::Result<Vec<u8>> {
 }
 
 fn read_file(rt: &HostRuntime, path: String) -> Result<Vec<u8>, Failure> {
-    match read_enough(rt, path.as_str()) {
-        Ok(bytes) => Ok(bytes),
-        Err(error) => Err(Failure::Unreadable(path, error)),
-    }
+    read_enough(rt, path.as_str()).map_err(|error| Failure::Unreadable(path, error))
 }
 
 fn print_head(rt: &HostRuntime, loaded: &Loaded) -> Result<(), Failure> {
@@ -78,30 +60,14 @@ fn print_tree(rt: &HostRuntime, sheet: &Sheet, count: usize) -> Result<(), Failu
     Ok(())
 }
 
-fn print_sheet<'a>(
-    rt: &HostRuntime,
-    count: usize,
-    table: &'a [Record],
-    names: &'a [u8],
-    strings: &'a [u8],
-) -> Result<(), Failure> {
-    let sheet = Sheet::new(count, table, names, strings);
-    print_tree(rt, &sheet, count)?;
-    print_members(rt, &sheet, Pools { names, strings })
-}
-
 fn run(rt: &HostRuntime) -> Result<(), Failure> {
     let file = read_file(rt, path_given(rt)?)?;
-    let mut table = vec![in rt.alloc(); BLANK; LIMITS.records]?;
+    let mut table = vec![in rt.alloc(); Record::default(); LIMITS.records]?;
     let loaded = load(file.as_slice(), table.as_mut_slice())?;
     print_head(rt, &loaded)?;
-    print_sheet(
-        rt,
-        loaded.count,
-        table.as_slice(),
-        loaded.names,
-        loaded.strings,
-    )
+    let sheet = Sheet::new(loaded.count, table.as_slice(), loaded.names, loaded.strings);
+    print_tree(rt, &sheet, loaded.count)?;
+    print_members(rt, &sheet)
 }
 
 // A failure is told on standard error, and ends the program with status 1.

@@ -1,5 +1,9 @@
+ghost use Rattle.std.specs.Prelude.{◌<◌};
+ghost use Rattle.sheet.specs.Sheets.{held};
+ghost use Rattle.station_read.specs.Left.{left};
+
 use crate::failure::Failure;
-use crate::show::{show_bytes, show_char, show_string};
+use crate::show::{Escaped, Quoted, QuotedChar};
 use content::any::AnyContent;
 use content::datum::Datum;
 use scalar::bool::Bool;
@@ -10,33 +14,18 @@ use scalar::text::{Identifier, Str, TextPart};
 use scalar::unsigned::Unsigned;
 use sheet::sheet::Sheet;
 use sheet::text::Pool;
-use sheet::token::{Literal, Punct};
+use sheet::token::{Literal, Part, Punct};
 use sheet::tree::Tree;
 use std::fmt;
 use std::num::f64_from_bits_with_nan;
 use token_de::cursor::TokenDe;
 use token_de::fault::Fault;
-use token_de::seed::Seed;
-
-// The two pools of a sheet, which the parts that a seed reads lie in.
-#[derive(Clone, Copy)]
-pub struct Pools<'a> {
-    pub names: &'a [u8],
-    pub strings: &'a [u8],
-}
 
 // A member, with its value if that is one value.
 #[derive(Clone, Copy)]
 struct Member {
     name: TextPart,
     value: Option<Datum>,
-}
-
-// The line of a member, whose texts lie in these pools.
-#[derive(Clone, Copy)]
-struct Line<'a> {
-    pools: Pools<'a>,
-    member: Member,
 }
 
 // The list has not the shape of members at this record.
@@ -53,121 +42,94 @@ impl From<Fault> for Misshapen {
     }
 }
 
-// The bytes of a part of a pool. A part that a seed read on the pool's sheet lies inside; of any other there are none.
-fn cut(pool: &[u8], part: TextPart) -> &[u8] {
-    let TextPart { start, len, .. } = part;
-    if start <= pool.len() && len <= pool.len() - start {
-        &pool[start..start + len]
-    } else {
-        &[]
+impl fmt::Display for Misshapen {
+    fn fmt<W: fmt::Write>(&self, f: &mut fmt::Formatter<W>) -> fmt::Result {
+        write!(f, "no member at record {}", self.record)
     }
+}
+
+// What was read of a sheet, beside the sheet that its texts lie in.
+#[derive(Clone, Copy)]
+struct InSheet<'a, T> {
+    sheet: Sheet<'a>,
+    read: T,
 }
 
 // A name as it is, and a string in quotes.
-fn show_text<W: fmt::Write>(
-    pools: Pools,
-    part: TextPart,
-    f: &mut fmt::Formatter<W>,
-) -> fmt::Result {
-    match part.pool {
-        Pool::Names => show_bytes(cut(pools.names, part), f),
-        Pool::Strings => show_string(cut(pools.strings, part), f),
-    }
-}
-
-fn show_value<W: fmt::Write>(pools: Pools, value: Datum, f: &mut fmt::Formatter<W>) -> fmt::Result {
-    match value {
-        Datum::Bool(truth) => write!(f, "{truth}"),
-        Datum::Unsigned(number) => write!(f, "{number}"),
-        Datum::Signed(number) => write!(f, "{number}"),
-        Datum::Float(bits) => {
-            let number = f64_from_bits_with_nan(bits);
-            write!(f, "{number:?}")
-        }
-        Datum::Char(char) => show_char(char, f),
-        Datum::Text(part) => show_text(pools, part, f),
-        Datum::Empty => write!(f, "()"),
-        Datum::List(counted) => write!(f, "list of {}", counted.count),
-        Datum::Map(counted) => write!(f, "map of {}", counted.count),
-    }
-}
-
-impl fmt::Display for Line<'_> {
+impl fmt::Display for InSheet<'_, TextPart> {
     fn fmt<W: fmt::Write>(&self, f: &mut fmt::Formatter<W>) -> fmt::Result {
-        write!(f, "  ")?;
-        show_text(self.pools, self.member.name, f)?;
-        match self.member.value {
-            Some(value) => {
-                write!(f, " = ")?;
-                show_value(self.pools, value, f)
-            }
-            None => write!(f, ": not one value"),
+        let TextPart { pool, start, len } = self.read;
+        let bytes = self.sheet.bytes(pool, Part { start, len });
+        match pool {
+            Pool::Names => write!(f, "{}", Escaped(bytes)),
+            Pool::Strings => write!(f, "{}", Quoted(bytes)),
         }
     }
 }
 
-fn is_punct(tree: Tree, wanted: Punct) -> bool {
-    match tree {
-        Tree::Punct(punct) => punct == wanted,
-        _ => false,
+impl fmt::Display for InSheet<'_, Datum> {
+    fn fmt<W: fmt::Write>(&self, f: &mut fmt::Formatter<W>) -> fmt::Result {
+        let sheet = self.sheet;
+        match self.read {
+            Datum::Bool(truth) => write!(f, "{truth}"),
+            Datum::Unsigned(number) => write!(f, "{number}"),
+            Datum::Signed(number) => write!(f, "{number}"),
+            Datum::Float(bits) => write!(f, "{:?}", f64_from_bits_with_nan(bits)),
+            Datum::Char(char) => write!(f, "{}", QuotedChar(char)),
+            Datum::Text(read) => write!(f, "{}", InSheet { sheet, read }),
+            Datum::Empty => write!(f, "()"),
+            Datum::List(counted) => write!(f, "list of {}", counted.count),
+            Datum::Map(counted) => write!(f, "map of {}", counted.count),
+        }
     }
 }
 
-// Whether a member ends here: nothing is left, or a comma is next.
-fn is_end(next: Option<(usize, Tree)>) -> bool {
-    match next {
-        Some((_, tree)) => is_punct(tree, Punct::COMMA),
-        None => true,
+impl fmt::Display for InSheet<'_, Member> {
+    fn fmt<W: fmt::Write>(&self, f: &mut fmt::Formatter<W>) -> fmt::Result {
+        let sheet = self.sheet;
+        let Member { name, value } = self.read;
+        let name = InSheet { sheet, read: name };
+        match value {
+            Some(read) => write!(f, "{name} = {}", InSheet { sheet, read }),
+            None => write!(f, "{name}: not one value"),
+        }
     }
 }
 
-// A truth value, or any other name.
+// A truth value, or any other name. A refused read leaves the cursor, so the next seed is tried.
 fn read_name(cursor: &mut TokenDe, sheet: &Sheet) -> Result<Datum, Fault> {
-    if let Ok(truth) = cursor.read(sheet, &Bool) {
-        return Ok(Datum::Bool(truth));
-    }
-    Ok(Datum::Text(cursor.read(sheet, &Str)?))
+    cursor
+        .read(sheet, &Bool)
+        .map(Datum::Bool)
+        .or_else(|_| cursor.read(sheet, &Str).map(Datum::Text))
 }
 
-// A refused read leaves the cursor, so the next seed is tried. An integer that fits no width is read as a float.
+// An integer that fits no width is read as a float.
 fn read_number(cursor: &mut TokenDe, sheet: &Sheet) -> Result<Datum, Fault> {
-    if let Ok(number) = cursor.read(sheet, &Unsigned::U64) {
-        return Ok(Datum::Unsigned(number));
-    }
-    if let Ok(number) = cursor.read(sheet, &Signed::I64) {
-        return Ok(Datum::Signed(number));
-    }
-    Ok(Datum::Float(cursor.read(sheet, &Float)?))
+    cursor
+        .read(sheet, &Unsigned::U64)
+        .map(Datum::Unsigned)
+        .or_else(|_| cursor.read(sheet, &Signed::I64).map(Datum::Signed))
+        .or_else(|_| cursor.read(sheet, &Float).map(Datum::Float))
 }
 
 // The value that begins with this tree, through the seed that fits it: a group by content.
 fn read_fitting(cursor: &mut TokenDe, sheet: &Sheet, first: Tree) -> Result<Datum, Fault> {
     match first {
         Tree::Ident(_) => read_name(cursor, sheet),
-        Tree::String(_) => Ok(Datum::Text(cursor.read(sheet, &Str)?)),
-        Tree::Literal(Literal::Char(_)) => Ok(Datum::Char(cursor.read(sheet, &Char)?)),
+        Tree::String(_) => cursor.read(sheet, &Str).map(Datum::Text),
+        Tree::Literal(Literal::Char(_)) => cursor.read(sheet, &Char).map(Datum::Char),
         Tree::Punct(_) | Tree::Literal(_) => read_number(cursor, sheet),
         Tree::Group(_, _) => cursor.read(sheet, &AnyContent),
     }
 }
 
-// The one value of a member, which is passed; else nothing is passed.
-fn read_value(cursor: &mut TokenDe, sheet: &Sheet, first: Tree) -> Option<Datum> {
-    let mut ahead = *cursor;
-    let value = read_fitting(&mut ahead, sheet, first).ok()?;
-    if !is_end(ahead.peek(sheet)) {
-        return None;
-    }
-    *cursor = ahead;
-    Some(value)
-}
-
-// Passes the tokens up to the next comma, and the comma.
-fn pass_comma(cursor: &mut TokenDe, sheet: &Sheet) {
-    for _ in 0..sheet.count() {
-        if is_end(cursor.next(sheet)) {
-            break;
-        }
+// The one value that stands before a comma or the end.
+fn read_value(mut cursor: TokenDe, sheet: &Sheet, first: Tree) -> Option<Datum> {
+    let value = read_fitting(&mut cursor, sheet, first).ok()?;
+    match cursor.peek(sheet) {
+        Some((_, tree)) if tree != Tree::Punct(Punct::COMMA) => None,
+        _ => Some(value),
     }
 }
 
@@ -180,7 +142,7 @@ fn cut_short(cursor: &TokenDe, sheet: &Sheet) -> Misshapen {
 
 fn pass_equals(cursor: &mut TokenDe, sheet: &Sheet) -> Result<(), Misshapen> {
     match cursor.next(sheet) {
-        Some((_, tree)) if is_punct(tree, Punct::EQUALS) => Ok(()),
+        Some((_, tree)) if tree == Tree::Punct(Punct::EQUALS) => Ok(()),
         Some((record, _)) => Err(Misshapen { record }),
         None => Err(cut_short(cursor, sheet)),
     }
@@ -189,40 +151,55 @@ fn pass_equals(cursor: &mut TokenDe, sheet: &Sheet) -> Result<(), Misshapen> {
 // The tree that a value begins with.
 fn value_start<'a>(cursor: &TokenDe, sheet: &Sheet<'a>) -> Result<Tree<'a>, Misshapen> {
     match cursor.peek(sheet) {
-        Some((record, tree)) if is_punct(tree, Punct::COMMA) => Err(Misshapen { record }),
+        Some((record, tree)) if tree == Tree::Punct(Punct::COMMA) => Err(Misshapen { record }),
         Some((_, tree)) => Ok(tree),
         None => Err(cut_short(cursor, sheet)),
     }
 }
 
-// A name, `=`, a value, and then a comma or the end.
-fn read_member(cursor: &mut TokenDe, sheet: &Sheet) -> Result<Member, Misshapen> {
+// The member that begins at the cursor: a name, `=`, a value, and then a comma or the end.
+fn read_member(mut cursor: TokenDe, sheet: &Sheet) -> Result<Member, Misshapen> {
     let name = cursor.read(sheet, &Identifier)?;
-    pass_equals(cursor, sheet)?;
-    let first = value_start(cursor, sheet)?;
+    pass_equals(&mut cursor, sheet)?;
+    let first = value_start(&cursor, sheet)?;
     let value = read_value(cursor, sheet, first);
-    pass_comma(cursor, sheet);
     Ok(Member { name, value })
 }
 
+// Passes the tokens up to the next comma, and the comma.
+#[tactic(auto, using(crate::proofs::Left::some_passed, crate::proofs::Left::none_passed))]
+fn pass_comma(cursor: &mut TokenDe, sheet: &Sheet)
+    ensures { 0 < left (held sheet.now) cursor.old.at → left (held sheet.now) cursor.new.at < left (held sheet.now) cursor.old.at }
+{
+    while let Some((_, tree)) = cursor.next(sheet) {
+        if tree == Tree::Punct(Punct::COMMA) {
+            break;
+        }
+    }
+}
+
 // Prints a line for each member of record 0's body, up to the first place that has not the shape of members.
-pub fn print_members(rt: &HostRuntime, sheet: &Sheet, pools: Pools) -> Result<(), Failure> {
+pub fn print_members(rt: &HostRuntime, sheet: &Sheet) -> Result<(), Failure> {
     println!(rt; "members:")?;
     let Some(Tree::Group(_, body)) = sheet.tree(0) else {
         return Ok(());
     };
     let mut cursor = TokenDe::within(body);
-    for _ in 0..sheet.count() {
-        if cursor.peek(sheet).is_none() {
-            break;
-        }
-        match read_member(&mut cursor, sheet) {
-            Ok(member) => println!(rt; "{}", Line { pools, member })?,
-            Err(Misshapen { record }) => {
-                println!(rt; "  no member at record {record}")?;
+    while cursor.peek(sheet).is_some() {
+        match read_member(cursor, sheet) {
+            Ok(read) => {
+                let member = InSheet {
+                    sheet: *sheet,
+                    read,
+                };
+                println!(rt; "  {member}")?;
+            }
+            Err(misshapen) => {
+                println!(rt; "  {misshapen}")?;
                 break;
             }
         }
+        pass_comma(&mut cursor, sheet);
     }
     Ok(())
 }

@@ -1,29 +1,12 @@
 use crate::failure::Failure;
-use crate::show::Line;
+use crate::show::TreeLine;
 use sheet::sheet::Sheet;
 use sheet::tree::Tree;
 use token_de::cursor::TokenDe;
 
-fn print_line(
-    rt: &HostRuntime,
-    sheet: &Sheet,
-    depth: usize,
-    record: usize,
-    tree: Tree,
-) -> Result<(), Failure> {
-    let place = sheet.place(record).unwrap_or(0);
-    let line = Line {
-        depth,
-        record,
-        place,
-        tree,
-    };
-    println!(rt; "{line}")?;
-    Ok(())
-}
-
 // Prints a line for each record, a group's line before those of its body, and answers how many there were.
 // Each turn either passes a record or leaves a run; every record begins at most one run, so 2 N + 2 turns suffice.
+// The turns are counted since they bound `walked` too, and nothing else does short of a proof that no two bodies overlap.
 pub fn walk(rt: &HostRuntime, sheet: &Sheet) -> Result<usize, Failure> {
     let mut stack = vec![in rt.alloc(); TokenDe::new()]?;
     let mut walked = 0;
@@ -33,7 +16,13 @@ pub fn walk(rt: &HostRuntime, sheet: &Sheet) -> Result<usize, Failure> {
             break;
         };
         if let Some((record, tree)) = cursor.next(sheet) {
-            print_line(rt, sheet, stack.len(), record, tree)?;
+            let line = TreeLine {
+                depth: stack.len(),
+                record,
+                place: sheet.place(record).unwrap_or(0),
+                tree,
+            };
+            println!(rt; "{line}")?;
             walked += 1;
             stack.push(cursor)?;
             if let Tree::Group(_, body) = tree {

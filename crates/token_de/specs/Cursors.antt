@@ -1,5 +1,5 @@
 -- What a cursor shows and where it stands after a call. Assumes nothing.
-use Rattle.std.specs.Prelude.{ℕ, ◌+◌, cond, is_ok, Some, None, Ok, Err, Option, Result, nat_lt}
+use Rattle.std.specs.Prelude.{ℕ, ◌+◌, cond, is_ok, Ok, Err, Option, Result, nat_lt}
 use Rattle.std.specs.Option.{option_map, unwrap_or, ok_or}
 use Rattle.layout.specs.Rules.{Parts}
 use Rattle.sheet.specs.declared.tree.Tree.{Tree}
@@ -10,11 +10,12 @@ use Rattle.token_de.specs.declared.fault.Fault.TheVariants.{Wrong, Ended}
 use Rattle.token_de.specs.declared.fault.Wanted.TheVariants as wanted
 use Rattle.sheet.specs.Tokens.{token}
 use Rattle.sheet.specs.Spots.{rest, past}
-use Rattle.sheet.specs.Trees.{Seen, seen, tree_of, Worded, worded, text_of}
+use Rattle.sheet.specs.Trees.{Seen, seen, Worded, worded, text_of}
+use Rattle.sheet.specs.Inputs.{next_tree}
 
 -- PEEK: the next tree with its record, if the run has a rest
 unfoldable pub peeked : Parts → Spot → Option (ℕ × Seen)
-peeked h s = let r = rest h s in cond (nat_lt r.from r.to) (Some (r.from, tree_of h r.from (token h r.from))) None
+peeked h s = let r = rest h s in option_map (λ t. (r.from, t)) (next_tree h r)
 
 abbrev pub peek_shown : Option (ℕ × Tree) → Option (ℕ × Seen)
 peek_shown r = option_map (λ x. (x.0, seen x.1)) r

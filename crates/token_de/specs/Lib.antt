@@ -5,3 +5,4 @@ pub mod Steps
 pub mod Custom
 pub mod Reading
 pub mod Customs
+pub mod Separators

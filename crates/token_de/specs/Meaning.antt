@@ -1,6 +1,8 @@
 -- What a seed means, and what its words are. Assumes nothing.
 use Rattle.std.specs.Prelude.{◌≡◌, ℕ, ◌+◌, ◌-◌, ◌<◌, ◌≤◌, length, Ok, Err, Option, Result}
 use Rattle.layout.specs.Rules.{Parts, limits, Kept}
+use Rattle.sheet.specs.declared.input.Input.{Input}
+use Rattle.sheet.specs.Sheets.{held}
 use Rattle.sheet.specs.Spots.{Run, Passed}
 use Rattle.token_de.specs.declared.seed.Taken.{Taken}
 use Rattle.token_de.specs.declared.fault.Fault.{Fault}
@@ -13,6 +15,10 @@ Answer X = Result X Fault
 -- their value, or its fault
 abbrev pub Meaning : Type 0 → Type 0
 Meaning V = Parts → ℕ → ℕ → Option ℕ → Answer (Taken V)
+
+-- what it answers on an input
+abbrev pub on : {V : Type 0} → Meaning V → Input → Answer (Taken V)
+on m x = m (held x.sheet) x.rest.from x.rest.to x.rest.last
 
 -- a refusal names a record of the sheet, and a customer's data fault has a detail from 100 to 255
 pub record Proper (h : Parts) (f : Fault) : Type 0 where

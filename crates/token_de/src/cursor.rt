@@ -55,44 +55,38 @@ impl TokenDe {
     }
 
     // The next tree and its record; the cursor stays.
+    #[tactic(auto, unfolding(crate::specs::Cursors::peeked))]
     pub fn peek<'a>(&self, sheet: &Sheet<'a>) -> Option<(usize, Tree<'a>)>
         ensures { peek_shown result ≡ peeked (held sheet.now) self.now.at }
     {
-        let rest = sheet.rest(self.at);
-        if rest.from >= rest.to {
-            return None;
-        }
-        let tree = sheet.tree(rest.from)?;
+        let input = sheet.input(self.at);
+        let rest = input.rest();
+        let tree = input.tree()?;
         Some((rest.from, tree))
     }
 
     // The next tree and its record, which are passed.
+    #[tactic(auto, using(crate::proofs::Cursors::peeked_few), unfolding(crate::specs::Cursors::peeked, crate::specs::Cursors::passed_one))]
     pub fn next<'a>(&mut self, sheet: &Sheet<'a>) -> Option<(usize, Tree<'a>)>
         ensures shows { peek_shown result ≡ peeked (held sheet.now) self.old.at }
         ensures passes { self.new.at ≡ passed_one (held sheet.now) self.old.at }
     {
-        let rest = sheet.rest(self.at);
-        if rest.from >= rest.to {
-            return None;
-        }
-        let passed = sheet.tree(rest.from)?;
-        self.at = self.at.past(rest.from + 1);
-        Some((rest.from, passed))
+        let (record, tree) = self.peek(sheet)?;
+        self.at = self.at.past(record + 1);
+        Some((record, tree))
     }
 
     // The text of the next token, an identifier or a string literal, which is passed.
+    #[tactic(auto, using(sheet::proofs::Inputs::rest_fits), unfolding(crate::specs::Cursors::passed_one, crate::specs::Cursors::text_read, crate::specs::Cursors::text_after))]
     pub fn text<'a>(&mut self, sheet: &Sheet<'a>) -> Result<Text<'a>, Fault>
         ensures answer { text_shown result ≡ text_read (held sheet.now) self.old.at }
         ensures passes { self.new.at ≡ text_after (held sheet.now) self.old.at }
     {
-        let rest = sheet.rest(self.at);
-        if rest.from >= rest.to {
-            return Err(Fault::Ended(Wanted::String, rest.last.unwrap_or(0)));
-        }
-        let Some(text) = sheet.text(rest.from) else {
-            return Err(Fault::Wrong(Wanted::String, rest.from));
-        };
-        self.at = self.at.past(rest.from + 1);
+        let input = sheet.input(self.at);
+        let ended = Fault::ended(Wanted::String, &input);
+        let at = input.rest().first().ok_or(ended)?;
+        let text = sheet.text(at).ok_or(Fault::Wrong(Wanted::String, at))?;
+        self.at = self.at.past(at + 1);
         Ok(text)
     }
 }

@@ -3,8 +3,7 @@ ghost use Rattle.token_de.specs.Customs.{whole_exact, answers_set};
 
 use crate::fault::Fault;
 use crate::seed::{Seed, Taken, Words};
-use sheet::sheet::Sheet;
-use sheet::spot::Rest;
+use sheet::input::Input;
 
 // Any seed with a grammar: a word is a run that the seed takes to its last tree.
 #[derive(Drop)]
@@ -19,8 +18,8 @@ impl<S: Seed> Seed for Custom<S> {
 
     ghost lawful = { λ s. S.Seed.lawful s.seed };
 
-    fn read(&self, sheet: &Sheet, rest: Rest) -> Result<Taken<S::Value>, Fault> {
-        self.seed.read(sheet, rest)
+    fn read(&self, input: &Input) -> Result<Taken<S::Value>, Fault> {
+        self.seed.read(input)
     }
 }
 

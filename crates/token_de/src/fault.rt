@@ -1,6 +1,9 @@
 ghost use Rattle.std.specs.Prelude.{◌≡◌};
+ghost use Rattle.std.specs.Option.{unwrap_or};
+ghost use Rattle.token_de.specs.declared.fault.Fault.TheVariants.{Wrong, Ended};
 ghost use Rattle.token_de.specs.Faults.{number, at, detail, wanted_number, data_number};
 
+use sheet::input::Input;
 use std::fmt;
 
 // What a read wanted of a token.
@@ -78,6 +81,20 @@ impl DataFault {
 }
 
 impl Fault {
+    // The next token is not what was wanted.
+    pub fn wrong(wanted: Wanted, input: &Input) -> Fault
+        ensures { result ≡ Wrong wanted input.now.rest.from }
+    {
+        Fault::Wrong(wanted, input.rest().from)
+    }
+
+    // No token is left: this names the last one passed, else record 0.
+    pub fn ended(wanted: Wanted, input: &Input) -> Fault
+        ensures { result ≡ Ended wanted (unwrap_or input.now.rest.last 0) }
+    {
+        Fault::Ended(wanted, input.rest().last.unwrap_or(0))
+    }
+
     // Its number among the refusals.
     pub fn number(&self) -> u8
         ensures { result ≡ number self.now }
@@ -99,14 +116,9 @@ impl Fault {
         ensures { result ≡ at self.now }
     {
         match self {
-            Fault::Wrong(_, record) => *record,
-            Fault::Ended(_, record) => *record,
-            Fault::Empty(record) => *record,
-            Fault::NoEquals(record) => *record,
-            Fault::NoSeparator(record) => *record,
-            Fault::Leftover(record) => *record,
-            Fault::Unreadable(record) => *record,
-            Fault::Data(_, record) => *record,
+            Fault::Wrong(_, record) | Fault::Ended(_, record) | Fault::Data(_, record) => *record,
+            Fault::Empty(record) | Fault::NoEquals(record) | Fault::NoSeparator(record) => *record,
+            Fault::Leftover(record) | Fault::Unreadable(record) => *record,
         }
     }
 
@@ -115,14 +127,9 @@ impl Fault {
         ensures { result ≡ detail self.now }
     {
         match self {
-            Fault::Wrong(wanted, _) => wanted.number(),
-            Fault::Ended(wanted, _) => wanted.number(),
-            Fault::Empty(_) => 0,
-            Fault::NoEquals(_) => 0,
-            Fault::NoSeparator(_) => 0,
-            Fault::Leftover(_) => 0,
-            Fault::Unreadable(_) => 0,
+            Fault::Wrong(wanted, _) | Fault::Ended(wanted, _) => wanted.number(),
             Fault::Data(fault, _) => fault.number(),
+            _ => 0,
         }
     }
 }

@@ -6,3 +6,4 @@ pub mod custom;
 pub mod fault;
 pub mod read;
 pub mod seed;
+pub mod separators;

@@ -1,4 +1,4 @@
-ghost use Rattle.std.specs.Prelude.{◌≡◌, MatchResult};
+ghost use Rattle.std.specs.Prelude.{MatchResult};
 ghost use Rattle.sheet.specs.Sheets.{held};
 ghost use Rattle.token_de.specs.Reading.{Accepted, Refused};
 
@@ -14,9 +14,9 @@ impl TokenDe {
             (λ v. Accepted (S.Words.word seed.now) (held sheet.now) self.old.at self.new.at v)
             (λ f. Refused (S.Seed.meaning seed.now) (S.Words.word seed.now) (held sheet.now) self.old.at self.new.at f) }
     {
-        let rest = sheet.rest(self.at);
-        let Taken { count, value } = seed.read(sheet, rest)?;
-        self.at = self.at.past(rest.from + count);
+        let input = sheet.input(self.at);
+        let Taken { count, value } = seed.read(&input)?;
+        self.at = self.at.past(input.rest().from + count);
         Ok(value)
     }
 }

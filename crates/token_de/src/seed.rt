@@ -1,10 +1,10 @@
 ghost use Rattle.std.specs.Prelude.{◌≡◌};
 ghost use Rattle.sheet.specs.Sheets.{held};
-ghost use Rattle.sheet.specs.Spots.{Run};
-ghost use Rattle.token_de.specs.Meaning.{Meaning, Lawful, Grammar, Exact};
+ghost use Rattle.token_de.specs.Meaning.{Meaning, on, Lawful, Grammar, Exact};
 ghost use Rattle.token_de.specs.Steps.{next};
 
 use crate::fault::{Fault, Wanted};
+use sheet::input::Input;
 use sheet::sheet::Sheet;
 use sheet::spot::Rest;
 use sheet::token::Token;
@@ -23,9 +23,8 @@ pub trait Seed {
     // what it answers on a run, after the last token passed
     ghost meaning: { Self → Meaning Self.Value };
 
-    fn read(&self, sheet: &Sheet, rest: Rest) -> Result<Taken<Self::Value>, Fault>
-        requires { Run (held sheet.now) rest.from rest.to }
-        ensures { result ≡ meaning self.now (held sheet.now) rest.from rest.to rest.last };
+    fn read(&self, input: &Input) -> Result<Taken<Self::Value>, Fault>
+        ensures { result ≡ on (meaning self.now) input.now };
 
     ghost lawful: { (s : Self) → Lawful (meaning s) };
 }
@@ -37,7 +36,16 @@ pub trait Words: Seed {
     ghost exact: { (s : Self) → Exact (Self.Seed.meaning s) (word s) };
 }
 
-// The next token of a run; `wanted` says what was to stand there.
+impl<V> Taken<V> {
+    // One tree, and its value.
+    pub fn one(value: V) -> Taken<V>
+        ensures { result ≡ record { count = 1; value = value } }
+    {
+        Taken { count: 1, value }
+    }
+}
+
+// The next token of a rest, on a sheet that need not have it as a run; `wanted` says what was to stand there.
 pub fn next_token(sheet: &Sheet, rest: Rest, wanted: Wanted) -> Result<Token, Fault>
     ensures { result ≡ next wanted (held sheet.now) rest.from rest.to rest.last }
 {
@@ -46,4 +54,11 @@ pub fn next_token(sheet: &Sheet, rest: Rest, wanted: Wanted) -> Result<Token, Fa
         return Err(ended);
     }
     sheet.token(rest.from).ok_or(ended)
+}
+
+// The next token of an input.
+pub fn first_token(input: &Input, wanted: Wanted) -> Result<Token, Fault>
+    ensures { result ≡ next wanted (held input.now.sheet) input.now.rest.from input.now.rest.to input.now.rest.last }
+{
+    next_token(&input.sheet(), input.rest(), wanted)
 }

@@ -14,7 +14,7 @@ use Rattle.whole.specs.declared.error.FileError.TheVariants.{Load, Read}
 use Rattle.whole.specs.Wholes.{RootAccepted, RootRefused, Loaded, Reading, Accepted, Refused}
 use Rattle.whole.proofs.Roots.{all_covered}
 
-module _ (f : List ℕ) (before after : List Record) (n : ℕ) (ns ss : List ℕ) (load : files.Accepted limits f before after n ns ss) where
+module _ {f : List ℕ} {before after : List Record} {n : ℕ} {ns ss : List ℕ} (load : files.Accepted limits f before after n ns ss) where
   -- the sheet of what is loaded is the parts of the file
   sheet_is : sheet_of n after ns ss ≡ shown n after ns ss
   sheet_is = cond-true (sheetable n after ns ss) _ _ (and_from _ _ (le-leb n (length after) (omega (arith, load.count, length-take n after))) (rules_kept limits (shown n after ns ss) load.takes.kept))
@@ -22,8 +22,8 @@ module _ (f : List ℕ) (before after : List Record) (n : ℕ) (ns ss : List ℕ
   loaded : Loaded (shown n after ns ss) before after
   loaded = load.later ∙ ap (λ c. take n after ++ drop c before) load.count
 
-  pub read : {V : Type 0} {w : Grammar V} (v : V) → RootAccepted w (sheet_of n after ns ss) v → Accepted w f before after v
-  read {V} {w} v root = at_parts (subst (λ (h : Parts). RootAccepted w h v) sheet_is root)
+  pub read : {V : Type 0} {w : Grammar V} {v : V} {h : Parts} → h ≡ sheet_of n after ns ss → RootAccepted w h v → Accepted w f before after v
+  read {V} {w} {v} is root = at_parts (subst (λ (h : Parts). RootAccepted w h v) (is ∙ sheet_is) root)
     where
       at_parts : RootAccepted w (shown n after ns ss) v → Accepted w f before after v
       at_parts r = record {
@@ -36,8 +36,8 @@ module _ (f : List ℕ) (before after : List Record) (n : ℕ) (ns ss : List ℕ
         table = loaded;
       }
 
-  pub unread : {V : Type 0} {m : Meaning V} {w : Grammar V} (x : Fault) → RootRefused m w (sheet_of n after ns ss) x → Refused m w f before after (Read x)
-  unread {V} {m} {w} x root = at_parts (subst (λ (h : Parts). RootRefused m w h x) sheet_is root)
+  pub unread : {V : Type 0} {m : Meaning V} {w : Grammar V} {x : Fault} {h : Parts} → h ≡ sheet_of n after ns ss → RootRefused m w h x → Refused m w f before after (Read x)
+  unread {V} {m} {w} {x} is root = at_parts (subst (λ (h : Parts). RootRefused m w h x) (is ∙ sheet_is) root)
     where
       at_parts : RootRefused m w (shown n after ns ss) x → Refused m w f before after (Read x)
       at_parts r = record {
@@ -45,5 +45,5 @@ module _ (f : List ℕ) (before after : List Record) (n : ℕ) (ns ss : List ℕ
         why = record { parts = shown n after ns ss; takes = load.takes; fault = r.fault; table = loaded };
       }
 
-pub unloaded : {V : Type 0} {m : Meaning V} {w : Grammar V} (f : List ℕ) (before after : List Record) (x : LoadFault) → files.Refused limits f before after x → Refused m w f before after (Load x)
-unloaded f before after x load = record { none = λ p t u y. load.none p t; why = load }
+pub unloaded : {V : Type 0} {m : Meaning V} {w : Grammar V} {f : List ℕ} {before after : List Record} {x : LoadFault} → files.Refused limits f before after x → Refused m w f before after (Load x)
+unloaded load = record { none = λ p t u y. load.none p t; why = load }

@@ -1,5 +1,5 @@
 ghost use Rattle.std.specs.Result.{MatchResult};
-ghost use Rattle.sheet.specs.Sheets.{sheet_of};
+ghost use Rattle.sheet.specs.Sheets.{held};
 ghost use Rattle.whole.specs.Wholes.{RootAccepted, RootRefused, Accepted, Refused};
 
 use crate::error::FileError;
@@ -10,24 +10,18 @@ use token_de::cursor::TokenDe;
 use token_de::fault::Fault;
 use token_de::seed::Words;
 
-// Reads record 0 of the sheet of these parts through the seed.
-fn read_root<'a, S: Words>(
-    count: usize,
-    table: &'a [Record],
-    names: &'a [u8],
-    strings: &'a [u8],
-    seed: &S,
-) -> Result<S::Value, Fault>
+// Reads record 0 of a sheet through the seed.
+fn read_root<S: Words>(sheet: &Sheet, seed: &S) -> Result<S::Value, Fault>
     ensures { MatchResult result
-        (λ v. RootAccepted (S.Words.word seed.now) (sheet_of count table.now names.now strings.now) v)
-        (λ x. RootRefused (S.Seed.meaning seed.now) (S.Words.word seed.now) (sheet_of count table.now names.now strings.now) x) }
+        (λ v. RootAccepted (S.Words.word seed.now) (held sheet.now) v)
+        (λ x. RootRefused (S.Seed.meaning seed.now) (S.Words.word seed.now) (held sheet.now) x) }
 {
-    let sheet = Sheet::new(count, table, names, strings);
     let mut cursor = TokenDe::new();
-    cursor.read(&sheet, seed)
+    cursor.read(sheet, seed)
 }
 
 // Loads a file into the table, and reads record 0, the whole of it, through the seed.
+#[tactic(auto, using(crate::proofs::Wholes::read, crate::proofs::Wholes::unread, crate::proofs::Wholes::unloaded))]
 pub fn from_file<S: Words>(
     file: &[u8],
     table: &mut [Record],
@@ -38,6 +32,7 @@ pub fn from_file<S: Words>(
         (λ x. Refused (S.Seed.meaning seed.now) (S.Words.word seed.now) file.now table.old table.new x) }
 {
     let loaded = load(file, table)?;
-    let value = read_root(loaded.count, table, loaded.names, loaded.strings, seed)?;
+    let sheet = Sheet::new(loaded.count, table, loaded.names, loaded.strings);
+    let value = read_root(&sheet, seed)?;
     Ok(value)
 }

@@ -1,46 +1,33 @@
 ghost use Rattle.std.specs.Prelude.{◌≡◌};
 ghost use Rattle.sheet.specs.Sheets.{held};
-ghost use Rattle.access.specs.declared.drive.KeyMove.{KeyMove as KeyChoice};
-ghost use Rattle.access.specs.declared.drive.ValueMove.{ValueMove as ValueChoice};
-ghost use Rattle.access.specs.declared.drive.Heard.{Heard as Hearing};
-ghost use Rattle.access.specs.Plain.{key};
-ghost use Rattle.access.specs.Talks.{state_of, model, key_after, value_after, turn_after, Talked};
+ghost use Rattle.access.specs.Talks.{state_of, Model, Leaves, turn_after, Talked};
 
-use super::{Heard, KeyMove, Talk, ValueMove};
+use super::{KeyMove, Talk};
 use crate::map_access::{KeyTurn, NextKey, ValueTurn};
 use sheet::sheet::Sheet;
+use token_de::fault::Fault;
 use token_de::seed::Seed;
 
-// Who makes the calls: it chooses each next call by what it has heard so far.
+// Who makes the calls: it chooses each next call by what it has heard so far, and it hears each answer.
 pub trait Caller<K: Seed, V: Seed> {
-    // what it chooses at a key turn and at a value turn
-    ghost asks: { Self → KeyChoice K };
+    // what it chooses at each turn, and what it becomes by what it hears
+    ghost model: { Model Self K V K.Value V.Value };
 
-    ghost reads: { Self → ValueChoice V };
+    fn at_key(&self) -> KeyMove<K>
+        ensures { result ≡ model.asks self.now };
 
-    // what it becomes by what it hears
-    ghost key_told: { Self → Hearing K.Value → Self };
+    // The seed to read the value with; without one the calls end.
+    fn at_value(&self) -> Option<V>
+        ensures { result ≡ model.reads self.now };
 
-    ghost value_told: { Self → Hearing V.Value → Self };
+    fn hear_key(&mut self, answer: Result<Option<K::Value>, Fault>)
+        ensures { self.new ≡ model.told_key self.old answer };
 
-    ghost finish_told: { Self → Hearing (Unit {0}) → Self };
+    fn hear_value(&mut self, answer: Result<V::Value, Fault>)
+        ensures { self.new ≡ model.told_value self.old answer };
 
-    fn at_key(&mut self) -> KeyMove<K>
-        ensures chosen { result ≡ asks self.old }
-        ensures same { self.new ≡ self.old };
-
-    fn at_value(&mut self) -> ValueMove<V>
-        ensures chosen { result ≡ reads self.old }
-        ensures same { self.new ≡ self.old };
-
-    fn hear_key(&mut self, answer: Heard<K::Value>)
-        ensures { self.new ≡ key_told self.old answer };
-
-    fn hear_value(&mut self, answer: Heard<V::Value>)
-        ensures { self.new ≡ value_told self.old answer };
-
-    fn hear_finish(&mut self, answer: Heard<()>)
-        ensures { self.new ≡ finish_told self.old answer };
+    fn hear_finish(&mut self, answer: Result<(), Fault>)
+        ensures { self.new ≡ model.told_finish self.old answer };
 }
 
 // The call that the caller chooses at a key turn, and what it is told.
@@ -49,36 +36,26 @@ fn key_turn<K: Seed + Drop, V: Seed + Drop, C: Caller<K, V>>(
     turn: KeyTurn,
     sheet: &Sheet,
 ) -> Talk
-    ensures caller { caller.new ≡ (key_after (model C.Caller.asks C.Caller.reads C.Caller.key_told C.Caller.value_told C.Caller.finish_told K.Seed.meaning V.Seed.meaning) (held sheet.now) caller.old turn.at (C.Caller.asks caller.old)).caller }
-    ensures list { state_of result ≡ (key_after (model C.Caller.asks C.Caller.reads C.Caller.key_told C.Caller.value_told C.Caller.finish_told K.Seed.meaning V.Seed.meaning) (held sheet.now) caller.old turn.at (C.Caller.asks caller.old)).list }
+    ensures { Leaves (turn_after C.model K.meaning V.meaning (held sheet.now) caller.old (state_of (Talk.Key turn))) caller.new (state_of result) }
 {
     match caller.at_key() {
-        KeyMove::Read(seed) => match turn.next_key_seed(sheet, &seed) {
-            Ok(NextKey::None(turn)) => {
-                caller.hear_key(Heard::None);
-                Talk::Key(turn)
-            }
-            Ok(NextKey::Key(value, turn)) => {
-                caller.hear_key(Heard::Accepted(value));
-                Talk::Value(turn)
-            }
-            Err((turn, fault)) => {
-                caller.hear_key(Heard::Refused(fault));
-                Talk::Key(turn)
-            }
-        },
+        KeyMove::Read(seed) => {
+            let (answer, talk) = match turn.next_key_seed(sheet, &seed) {
+                Ok(NextKey::None(turn)) => (Ok(None), Talk::Key(turn)),
+                Ok(NextKey::Key(value, due)) => (Ok(Some(value)), Talk::Value(due)),
+                Err((turn, fault)) => (Err(fault), Talk::Key(turn)),
+            };
+            caller.hear_key(answer);
+            talk
+        }
         KeyMove::Finish => {
             let at = turn.at();
-            match turn.finish(sheet) {
-                Ok(()) => {
-                    caller.hear_finish(Heard::Accepted(()));
-                    Talk::Over(at)
-                }
-                Err((turn, fault)) => {
-                    caller.hear_finish(Heard::Refused(fault));
-                    Talk::Key(turn)
-                }
-            }
+            let (answer, talk) = match turn.finish(sheet) {
+                Ok(()) => (Ok(()), Talk::Over(at)),
+                Err((turn, fault)) => (Err(fault), Talk::Key(turn)),
+            };
+            caller.hear_finish(answer);
+            talk
         }
         KeyMove::Stop => Talk::Key(turn),
     }
@@ -87,25 +64,20 @@ fn key_turn<K: Seed + Drop, V: Seed + Drop, C: Caller<K, V>>(
 // The call that the caller chooses at a value turn, and what it is told.
 fn value_turn<K: Seed + Drop, V: Seed + Drop, C: Caller<K, V>>(
     caller: &mut C,
-    turn: ValueTurn,
+    due: ValueTurn,
     sheet: &Sheet,
 ) -> Talk
-    ensures caller { caller.new ≡ (value_after (model C.Caller.asks C.Caller.reads C.Caller.key_told C.Caller.value_told C.Caller.finish_told K.Seed.meaning V.Seed.meaning) (held sheet.now) caller.old turn.at (C.Caller.reads caller.old)).caller }
-    ensures list { state_of result ≡ (value_after (model C.Caller.asks C.Caller.reads C.Caller.key_told C.Caller.value_told C.Caller.finish_told K.Seed.meaning V.Seed.meaning) (held sheet.now) caller.old turn.at (C.Caller.reads caller.old)).list }
+    ensures { Leaves (turn_after C.model K.meaning V.meaning (held sheet.now) caller.old (state_of (Talk.Value due))) caller.new (state_of result) }
 {
-    match caller.at_value() {
-        ValueMove::Read(seed) => match turn.next_value_seed(sheet, &seed) {
-            Ok((value, turn)) => {
-                caller.hear_value(Heard::Accepted(value));
-                Talk::Key(turn)
-            }
-            Err((turn, fault)) => {
-                caller.hear_value(Heard::Refused(fault));
-                Talk::Value(turn)
-            }
-        },
-        ValueMove::Stop => Talk::Value(turn),
-    }
+    let Some(seed) = caller.at_value() else {
+        return Talk::Value(due);
+    };
+    let (answer, talk) = match due.next_value_seed(sheet, &seed) {
+        Ok((value, turn)) => (Ok(value), Talk::Key(turn)),
+        Err((due, fault)) => (Err(fault), Talk::Value(due)),
+    };
+    caller.hear_value(answer);
+    talk
 }
 
 // One turn: the call that the caller chooses, if any.
@@ -114,12 +86,11 @@ fn next_call<K: Seed + Drop, V: Seed + Drop, C: Caller<K, V>>(
     talk: Talk,
     sheet: &Sheet,
 ) -> Talk
-    ensures caller { caller.new ≡ (turn_after (model C.Caller.asks C.Caller.reads C.Caller.key_told C.Caller.value_told C.Caller.finish_told K.Seed.meaning V.Seed.meaning) (held sheet.now) caller.old (state_of talk).turn (state_of talk).at).caller }
-    ensures list { state_of result ≡ (turn_after (model C.Caller.asks C.Caller.reads C.Caller.key_told C.Caller.value_told C.Caller.finish_told K.Seed.meaning V.Seed.meaning) (held sheet.now) caller.old (state_of talk).turn (state_of talk).at).list }
+    ensures { Leaves (turn_after C.model K.meaning V.meaning (held sheet.now) caller.old (state_of talk)) caller.new (state_of result) }
 {
     match talk {
         Talk::Key(turn) => key_turn(caller, turn, sheet),
-        Talk::Value(turn) => value_turn(caller, turn, sheet),
+        Talk::Value(due) => value_turn(caller, due, sheet),
         Talk::Over(at) => Talk::Over(at),
     }
 }
@@ -131,7 +102,7 @@ pub fn drive<K: Seed + Drop, V: Seed + Drop, C: Caller<K, V>>(
     sheet: &Sheet,
     turns: usize,
 ) -> Talk
-    ensures { Talked (model C.Caller.asks C.Caller.reads C.Caller.key_told C.Caller.value_told C.Caller.finish_told K.Seed.meaning V.Seed.meaning) (held sheet.now) turns caller.old (record { turn = key; at = turn.at }) caller.new (state_of result) }
+    ensures { Talked C.model K.meaning V.meaning (held sheet.now) turns caller.old (state_of (Talk.Key turn)) caller.new (state_of result) }
 {
     let mut talk = Talk::Key(turn);
     for _turn in 0..turns {

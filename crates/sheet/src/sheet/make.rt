@@ -1,12 +1,12 @@
 ghost use Rattle.std.specs.Prelude.{◌≡◌, length};
 ghost use Rattle.layout.specs.Rules.{limits, Kept};
 ghost use Rattle.layout.specs.Scan.{kept};
-ghost use Rattle.sheet.specs.Sheets.{held, sheetable, sheet_of, Made};
+ghost use Rattle.sheet.specs.Sheets.{held, empty_sheet, sheet_of, Made};
 
 use super::Sheet;
-use layout::limits::LIMITS;
+use layout::limits::{LIMITS, Sizes};
 use layout::record::Record;
-use layout::rules::{Bounds, check};
+use layout::rules::check;
 
 // The sheet of one record, an empty brace.
 const EMPTY: [Record; 1] = [Record {
@@ -21,41 +21,42 @@ const EMPTY: [Record; 1] = [Record {
 }];
 
 // Whether these records and pools keep every rule.
+#[tactic(auto, using(crate::proofs::Made::kept_checked), unfolding(layout::specs::Scan::kept))]
 fn keep_rules(records: &[Record], names: &[u8], strings: &[u8]) -> bool
     ensures { result ≡ kept limits (record { records = records.entry.now; names = names.now; strings = strings.now }) }
 {
-    let bounds = Bounds {
+    let sizes = Sizes {
+        records: records.len(),
         names: names.len(),
         strings: strings.len(),
-        depth: LIMITS.depth,
     };
-    LIMITS.allow(records.len(), names.len(), strings.len()) && check(&records, bounds).is_ok()
-}
-
-// Whether the first `count` records of a table and two pools are those of a sheet.
-fn is_sheet(count: usize, table: &[Record], names: &[u8], strings: &[u8]) -> bool
-    ensures { result ≡ sheetable count table.now names.now strings.now }
-{
-    count <= table.len() && keep_rules(&table[0..count], names, strings)
+    LIMITS.allow(sizes) && check(&records, LIMITS.bounds(sizes)).is_ok()
 }
 
 impl<'a> Sheet<'a> {
-    // The sheet of the first `count` records of a table; where the parts break a rule, an empty brace.
+    fn empty() -> Sheet<'a>
+        ensures { held result ≡ empty_sheet }
+    {
+        Sheet {
+            records: &EMPTY,
+            names: &[],
+            strings: &[],
+        }
+    }
+
+    // The sheet of the first `count` records of a table, which may have more places; where the parts break a rule, an empty
+    // brace.
     pub fn new(count: usize, table: &'a [Record], names: &'a [u8], strings: &'a [u8]) -> Sheet<'a>
         ensures is { held result ≡ sheet_of count table.now names.now strings.now }
         ensures rules { Made count table.now names.now strings.now (held result) }
     {
-        if !is_sheet(count, table, names, strings) {
-            return Sheet {
-                records: &EMPTY,
-                names: &[],
-                strings: &[],
-            };
-        }
-        Sheet {
-            records: &table[0..count],
-            names,
-            strings,
+        match table.get(..count) {
+            Some(records) if keep_rules(records, names, strings) => Sheet {
+                records,
+                names,
+                strings,
+            },
+            _ => Sheet::empty(),
         }
     }
 

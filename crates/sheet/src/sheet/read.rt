@@ -1,8 +1,8 @@
-ghost use Rattle.std.specs.Prelude.{◌≡◌, ℕ, ◌+◌, ◌^◌, ◌<◌, ◌≤◌, length, if◌then◌else◌, None, nat_lt};
+ghost use Rattle.std.specs.Prelude.{◌≡◌, ℕ, length, if◌then◌else◌, None, nat_lt};
 ghost use Rattle.layout.specs.Rules.{entry};
 ghost use Rattle.sheet.specs.Sheets.{held};
 ghost use Rattle.sheet.specs.Tokens.{token, bytes_of};
-ghost use Rattle.sheet.specs.Trees.{seen, tree_of, if_there, shown, text_of, text_shown, pool_of};
+ghost use Rattle.sheet.specs.Trees.{tree_of, if_there, shown, worded, text_of, text_shown, pool_of};
 
 use super::Sheet;
 use crate::spot::Body;
@@ -10,62 +10,25 @@ use crate::text::{Pool, Text};
 use crate::token::{Part, Token, token_of};
 use crate::tree::Tree;
 
-// The bytes of a part of a pool.
-fn cut(pool: &[u8], part: Part) -> &[u8]
-    requires { part.start + part.len ≤ length pool.now }
-    ensures { result.now ≡ bytes_of pool.now part }
-{
-    let start = part.start;
-    let end = start + part.len;
-    &pool[start..end]
-}
-
 // The bytes of a part of a pool, as far as the pool goes.
-fn clamped(pool: &[u8], part: Part) -> &[u8]
+fn cut(pool: &[u8], part: Part) -> &[u8]
     ensures { result.now ≡ bytes_of pool.now part }
 {
-    let start = part.start.min(pool.len());
-    let len = part.len.min(pool.len() - start);
-    cut(pool, Part { start, len })
+    match pool.get(part.start..) {
+        Some(rest) => &rest[..part.len.min(rest.len())],
+        None => &[],
+    }
 }
 
 impl<'a> Sheet<'a> {
-    fn token_at(&self, at: usize) -> Token
-        requires { at < length (held self.now).records }
-        ensures { result ≡ token (held self.now) at }
+    // The text that is a part of a pool.
+    fn part(&self, pool: Pool, part: Part) -> Text<'a>
+        ensures { worded result ≡ record { pool = pool; start = part.start; bytes = bytes_of (pool_of (held self.now) pool) part } }
     {
-        token_of(&self.records[at])
-    }
-
-    fn tree_at(&self, at: usize) -> Tree<'a>
-        requires { at < length (held self.now).records }
-        ensures { seen result ≡ tree_of (held self.now) at (token (held self.now) at) }
-    {
-        match self.token_at(at) {
-            Token::Ident(part) => Tree::Ident(cut(self.names, part)),
-            Token::String(part) => Tree::String(cut(self.strings, part)),
-            Token::Punct(punct) => Tree::Punct(punct),
-            Token::Literal(literal) => Tree::Literal(literal),
-            Token::Group(group) => Tree::Group(group.delimiter, Body::new(at, group)),
-        }
-    }
-
-    fn text_at(&self, at: usize) -> Option<Text<'a>>
-        requires { at < length (held self.now).records }
-        ensures { text_shown result ≡ text_of (held self.now) (token (held self.now) at) }
-    {
-        match self.token_at(at) {
-            Token::Ident(part) => Some(Text {
-                pool: Pool::Names,
-                start: part.start,
-                bytes: cut(self.names, part),
-            }),
-            Token::String(part) => Some(Text {
-                pool: Pool::Strings,
-                start: part.start,
-                bytes: cut(self.strings, part),
-            }),
-            _ => None,
+        Text {
+            pool,
+            start: part.start,
+            bytes: self.bytes(pool, part),
         }
     }
 
@@ -73,32 +36,32 @@ impl<'a> Sheet<'a> {
     pub fn token(&self, at: usize) -> Option<Token>
         ensures { result ≡ if_there (held self.now) at (token (held self.now) at) }
     {
-        if at < self.records.len() {
-            Some(self.token_at(at))
-        } else {
-            None
-        }
+        let record = self.records.get(at)?;
+        Some(token_of(record))
     }
 
     // The tree of record `at`, if there is such a record.
     pub fn tree(&self, at: usize) -> Option<Tree<'a>>
         ensures { shown result ≡ if_there (held self.now) at (tree_of (held self.now) at (token (held self.now) at)) }
     {
-        if at < self.records.len() {
-            Some(self.tree_at(at))
-        } else {
-            None
-        }
+        let tree = match self.token(at)? {
+            Token::Ident(part) => Tree::Ident(self.bytes(Pool::Names, part)),
+            Token::String(part) => Tree::String(self.bytes(Pool::Strings, part)),
+            Token::Punct(punct) => Tree::Punct(punct),
+            Token::Literal(literal) => Tree::Literal(literal),
+            Token::Group(group) => Tree::Group(group.delimiter, Body::new(at, group)),
+        };
+        Some(tree)
     }
 
     // The text of record `at`, if that is an identifier or a string literal.
     pub fn text(&self, at: usize) -> Option<Text<'a>>
         ensures { text_shown result ≡ (if nat_lt at (length (held self.now).records) then text_of (held self.now) (token (held self.now) at) else None) }
     {
-        if at < self.records.len() {
-            self.text_at(at)
-        } else {
-            None
+        match self.token(at)? {
+            Token::Ident(part) => Some(self.part(Pool::Names, part)),
+            Token::String(part) => Some(self.part(Pool::Strings, part)),
+            _ => None,
         }
     }
 
@@ -107,8 +70,8 @@ impl<'a> Sheet<'a> {
         ensures { result.now ≡ bytes_of (pool_of (held self.now) pool) part }
     {
         match pool {
-            Pool::Names => clamped(self.names, part),
-            Pool::Strings => clamped(self.strings, part),
+            Pool::Names => cut(self.names, part),
+            Pool::Strings => cut(self.strings, part),
         }
     }
 
@@ -116,10 +79,6 @@ impl<'a> Sheet<'a> {
     pub fn place(&self, at: usize) -> Option<u32>
         ensures { result ≡ if_there (held self.now) at (entry (held self.now).records at).place }
     {
-        if at < self.records.len() {
-            Some(self.records[at].place)
-        } else {
-            None
-        }
+        Some(self.records.get(at)?.place)
     }
 }

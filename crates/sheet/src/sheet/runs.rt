@@ -4,50 +4,60 @@ ghost use Rattle.sheet.specs.Sheets.{held};
 ghost use Rattle.sheet.specs.Spots.{holds, some_holds, is_run, stands, last_passed, Rested};
 
 use super::Sheet;
-use crate::spot::{Rest, Spot};
+use crate::spot::{Body, Rest, Spot};
 use layout::record::Record;
 
-// Whether a record is a group whose body holds the records from `from` up to `to`.
-fn holds(record: &Record, from: usize, to: usize) -> bool
-    ensures { result ≡ holds «record».now from to }
+// Whether a record is a group whose body holds the records of this run.
+fn holds(record: &Record, run: Body) -> bool
+    ensures { result ≡ holds «record».now run.from run.to }
 {
-    record.is_group() && record.a as usize <= from && to <= record.a as usize + record.b as usize
+    record.is_group()
+        && record.a as usize <= run.from
+        && run.to <= record.a as usize + record.b as usize
 }
 
 impl Sheet<'_> {
-    // Whether record `group` is a group whose body holds the records from `from` up to `to`.
-    fn body_holds(&self, group: usize, from: usize, to: usize) -> bool
-        ensures { result ≡ (nat_lt group (length (held self.now).records) && holds (entry (held self.now).records group) from to) }
+    // Whether the group that the run came from holds it.
+    fn body_holds(&self, run: Body) -> bool
+        ensures { result ≡ (nat_lt run.parent (length (held self.now).records) && holds (entry (held self.now).records run.parent) run.from run.to) }
     {
-        group < self.records.len() && holds(&self.records[group], from, to)
+        match self.records.get(run.parent) {
+            Some(record) => holds(record, run),
+            None => false,
+        }
     }
 
-    // Whether some record is such a group.
-    fn some_body_holds(&self, from: usize, to: usize) -> bool
-        ensures { result ≡ some_holds (held self.now).records from to }
+    // Whether some group holds the run. The one that it came from is asked first, since it mostly does.
+    fn some_body_holds(&self, run: Body) -> bool
+        ensures { result ≡ some_holds (held self.now).records run.from run.to }
     {
-        for record in self.records {
-            if holds(record, from, to) {
-                return true;
-            }
-        }
-        false
+        self.body_holds(run) || self.records.iter().any(|record| holds(record, run))
     }
 
-    // Whether it has this run. The group that the run came from is asked first, since it mostly is the one.
-    fn has_run(&self, group: usize, from: usize, to: usize) -> bool
-        ensures { result ≡ is_run (held self.now) from to }
+    // Whether it has this run.
+    #[tactic(auto, unfolding(crate::specs::Spots::is_run))]
+    pub(crate) fn has_run(&self, run: Body) -> bool
+        ensures { result ≡ is_run (held self.now) run.from run.to }
     {
-        if from > to {
-            return false;
-        }
-        if to <= 1 {
-            return true;
-        }
-        if self.body_holds(group, from, to) {
-            return true;
-        }
-        self.some_body_holds(from, to)
+        run.from <= run.to && (run.to <= 1 || self.some_body_holds(run))
+    }
+
+    // Whether it has the spot's run, and the spot stands in it.
+    fn stands(&self, spot: Spot) -> bool
+        ensures { result ≡ stands (held self.now) spot }
+    {
+        let Spot {
+            group,
+            first,
+            place,
+            end,
+        } = spot;
+        let run = Body {
+            parent: group,
+            from: first,
+            to: end,
+        };
+        self.has_run(run) && first <= place && place <= end
     }
 }
 
@@ -55,24 +65,11 @@ impl Spot {
     fn last_passed(&self) -> Option<usize>
         ensures { result ≡ last_passed self.now }
     {
-        if self.first < self.place {
-            Some(self.place - 1)
-        } else {
-            None
-        }
+        (self.first < self.place).then(|| self.place - 1)
     }
 }
 
 impl Sheet<'_> {
-    // Whether it has the spot's run, and the spot stands in it.
-    fn stands(&self, spot: Spot) -> bool
-        ensures { result ≡ stands (held self.now) spot }
-    {
-        self.has_run(spot.group, spot.first, spot.end)
-            && spot.first <= spot.place
-            && spot.place <= spot.end
-    }
-
     // The rest of a spot's run, and the last token passed: nothing where this sheet does not have the run.
     pub fn rest(&self, spot: Spot) -> Rest
         ensures { Rested (held self.now) spot result }

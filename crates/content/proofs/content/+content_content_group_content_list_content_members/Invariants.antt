@@ -1,8 +1,6 @@
 use Rattle.std.proofs.Common.{◌+◌, ◌-◌, ◌*◌}
-use Rattle.sheet.specs.Sheets.{held}
-use Rattle.content.specs.Bodies.{entry}
 use Rattle.content.specs.Contents.{content}
-use Rattle.content.specs.Turns.{Turn}
+use Rattle.content.proofs.Loops.{entries, answer, Left}
 use Rattle.content.proofs.content.+content_content_group_content_list_content_members.Given as goal
 
 abbrev pub decreases-content : goal.decreases-content
@@ -17,14 +15,14 @@ decreases-content_list l = 3 * l.depth + 1
 abbrev pub decreases-content_members : goal.decreases-content_members
 decreases-content_members l = 3 * l.depth + 1
 
-abbrev pub invariant-content_list-loop-place : goal.invariant-content_list-loop-place
-invariant-content_list-loop-place l = let h = held l.sheet in Turn h (content l.depth h) l.first l.place l.to l.count
+abbrev pub invariant-content_list-loop-left : goal.invariant-content_list-loop-left
+invariant-content_list-loop-left l = let m = content l.depth in Left m l.depth l.body.rest.from (answer m l.body) l.left l.count
 
-abbrev pub decreases-content_list-loop-place : goal.decreases-content_list-loop-place
-decreases-content_list-loop-place l = l.to - l.place
+abbrev pub decreases-content_list-loop-left : goal.decreases-content_list-loop-left
+decreases-content_list-loop-left l = l.left.rest.to - l.left.rest.from
 
-abbrev pub invariant-content_members-loop-place : goal.invariant-content_members-loop-place
-invariant-content_members-loop-place l = let h = held l.sheet in let m = content l.depth h in Turn h (entry h m m) l.first l.place l.to l.count
+abbrev pub invariant-content_members-loop-left : goal.invariant-content_members-loop-left
+invariant-content_members-loop-left l = let m = entries l.depth in Left m l.depth l.body.rest.from (answer m l.body) l.left l.count
 
-abbrev pub decreases-content_members-loop-place : goal.decreases-content_members-loop-place
-decreases-content_members-loop-place l = l.to - l.place
+abbrev pub decreases-content_members-loop-left : goal.decreases-content_members-loop-left
+decreases-content_members-loop-left l = l.left.rest.to - l.left.rest.from

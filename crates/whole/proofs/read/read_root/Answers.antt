@@ -1,18 +1,16 @@
 use Rattle.std.proofs.Common.{subst, MatchResult}
-use Rattle.layout.specs.Rules.{Parts, limits}
+use Rattle.layout.specs.Rules.{limits}
 use Rattle.layout.proofs.Scans.{kept_rules}
 use Rattle.sheet.specs.declared.spot.Spot.{Spot}
 use Rattle.sheet.specs.Sheets.{held}
 use Rattle.token_de.specs.Reading as reading
-use Rattle.whole.specs.Wholes.{RootAccepted, RootRefused}
 use Rattle.whole.proofs.Roots.{root_cases}
 use Rattle.whole.proofs.read.read_root.Goals as goal
 
 pub returns : goal.returns
 returns g c =
-    let h = held c.new-sheet.result in
+    let h = held c.args.sheet.now in
     let m = g.S.Seed.meaning c.args.seed.now in
     let w = g.S.Words.word c.args.seed.now in
-    subst (λ (x : Parts). MatchResult c.read.result (RootAccepted w x) (RootRefused m w x)) c.new-sheet.ensures.is
-    (root_cases (g.met.S.Words.exact c.args.seed.now) h (kept_rules limits h c.new-sheet.result.lawful) c.read.new.self.at c.read.result
-    (subst (λ (s : Spot). MatchResult c.read.result (λ v. reading.Accepted w h s c.read.new.self.at v) (λ x. reading.Refused m w h s c.read.new.self.at x)) c.new-cursor.ensures c.read.ensures))
+    root_cases (g.met.S.Words.exact c.args.seed.now) h (kept_rules limits h c.args.sheet.now.lawful) c.read.new.self.at c.read.result
+    (subst (λ (s : Spot). MatchResult c.read.result (λ v. reading.Accepted w h s c.read.new.self.at v) (λ x. reading.Refused m w h s c.read.new.self.at x)) c.new-cursor.ensures c.read.ensures)

@@ -1,15 +1,10 @@
-use Rattle.std.proofs.Common.{List, sym, ◌∙◌}
-use Rattle.std.proofs.lemmas.List.{at_drop_all}
+use Rattle.std.proofs.Common.{rules, tests}
+use Rattle.std.proofs.lemmas.Iterator.{YieldsList-from_slice}
+use Rattle.std.proofs.lemmas.Iterator.Search.{any_from_yields_List}
 use Rattle.layout.specs.declared.record.Record.{Record}
-use Rattle.sheet.specs.Spots.{some_holds}
-use Rattle.sheet.proofs.Runs.{one_holds, holds_more}
+use Rattle.sheet.specs.Spots.{holds}
 use Rattle.sheet.proofs.sheet.Sheet.some_body_holds.Goals as goal
 
-pub returns-then-holds : goal.returns-then-holds
-returns-then-holds c = sym (one_holds c.args.self.now.records.now c.loop-record.record-index c.args.from c.args.to c.loop-record-test.true (sym c.if-holds.ensures))
-
-pub loop-record-preserved : goal.loop-record-preserved
-loop-record-preserved c = sym (holds_more c.args.self.now.records.now c.loop-record.record-index c.args.from c.args.to c.loop-record-test.true (sym c.if-holds.ensures)) ∙ c.loop-record.invariant
-
-pub returns : goal.returns
-returns c = sym (at_drop_all (λ (rs : List Record). some_holds rs c.args.from c.args.to) c.args.self.now.records.now c.loop-record.record-index c.loop-record-test.false) ∙ c.loop-record.invariant
+pub returns-else-body_holds : goal.returns-else-body_holds
+returns-else-body_holds c =
+    any_from_yields_List (λ (r : Record). holds r c.args.run.from c.args.run.to) _ _ _ c.any.ensures.ran (YieldsList-from_slice c.args.self.now.records.now cc) (λ x b q k. search (rules, tests))

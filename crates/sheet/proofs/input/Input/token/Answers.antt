@@ -1,0 +1,10 @@
+use Rattle.std.proofs.Common.{sym, ◌∙◌}
+use Rattle.sheet.specs.Sheets.{held}
+use Rattle.sheet.specs.Tokens.{token}
+use Rattle.sheet.proofs.Inputs.{left_is}
+use Rattle.sheet.proofs.input.Input.token.Goals as goal
+
+pub returns : goal.returns
+returns c =
+    let x = c.args.self.now in
+    c.token.ensures ∙ left_is (held x.sheet) x.rest x.sheet.lawful x.run (token (held x.sheet)) _ (sym c.in_ok-first.was ∙ c.first.ensures)
