@@ -10,7 +10,7 @@ use token_de::fault::Fault;
 use token_de::seed::{Seed, Taken};
 use token_de::separators::past_comma;
 
-// Whether this punct stands at `at`, before the end `to`.
+// Whether this punct stands at `at`, before the end `to`, wherever these are.
 pub fn is_mark(sheet: &Sheet, punct: Punct, at: usize, to: usize) -> bool
     ensures { result ≡ marked (held sheet.now) punct at to }
 {

@@ -18,7 +18,7 @@ use token_de::fault::{Fault, Wanted};
 use token_de::seed::Taken;
 use token_de::separators::{past_comma, past_equals};
 
-// One content word, of at most `depth` levels.
+// One content word, of at most `depth` levels. The depth is an argument, so the bound on it is no part of an input.
 #[tactic(auto, using(crate::specs::Depths::tree_levels, crate::proofs::Seen::each_tree))]
 #[cycle(content_content_group_content_list_content_members)]
 pub(crate) fn content(input: &Input, depth: usize) -> Result<Taken<Datum>, Fault>

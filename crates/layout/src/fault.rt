@@ -23,7 +23,7 @@ pub enum LoadFault {
 }
 
 impl LoadFault {
-    // Its number among the refusals.
+    // Its number among the refusals, as users see it.
     pub fn number(&self) -> u8
         ensures { result ≡ number self.now }
     {

@@ -17,7 +17,7 @@ pub struct Bounds {
     pub depth: u32,
 }
 
-// The largest sheet that is taken.
+// The largest sheet that is taken. `Sizes` are those of one file, and `Bounds` what one of its records is measured against.
 #[derive(Clone, Copy)]
 pub struct Limits {
     pub records: usize,

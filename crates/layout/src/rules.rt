@@ -5,7 +5,7 @@ ghost use Rattle.layout.specs.Scan.{fitting, fault_of, along, level_at, first_fa
 
 use crate::fault::LoadFault;
 use crate::kind::{Delimiter, Kind, LiteralKind};
-use crate::limits::Bounds;
+pub use crate::limits::Bounds;
 use crate::record::Record;
 
 // The pattern of the f64 above all finite ones.

@@ -30,7 +30,7 @@ fn behind_minus<N: Numeral>(number: &N, sheet: &Sheet, at: usize, to: usize) -> 
     number.value_of(true, token)
 }
 
-// A numeral, or a `-` and a numeral.
+// A numeral, or a `-` and a numeral. It answers for every rest, also for one that is no run of the sheet.
 pub fn read_number<N: Numeral>(
     number: &N,
     wanted: Wanted,

@@ -33,6 +33,7 @@ fn after<A, T: Drop>(reads: usize, answer: Result<A, (T, Fault)>) -> Result<A, (
 // How many entries of names and signed integers a body has, or how many come before which refusal.
 fn count_entries(sheet: &Sheet, body: Body) -> Result<usize, (usize, Refusal)> {
     let mut turn = KeyTurn::within(body);
+    // more reads than a body of these tests has
     for read in 0..9usize {
         let due = match after(read, turn.next_key_seed(sheet, &Identifier))? {
             NextKey::Key(_, due) => due,

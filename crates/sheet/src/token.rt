@@ -64,7 +64,7 @@ impl Punct {
 
     pub const MINUS: Punct = Punct { code: b'-' };
 
-    // The punct of an ASCII code, if it is one.
+    // The punct of an ASCII code, if it is one. `new` and `as_char` are the names of the Rust original.
     pub fn new(code: u8) -> Option<Punct>
         ensures { result ≡ (if is_punct code then Some (record { code = code }) else None) }
     {
@@ -78,6 +78,7 @@ impl Punct {
     }
 }
 
+// A number that stands for no delimiter has a meaning too, so this is more than its `TryFrom`.
 fn delimiter_of(sub: u8) -> Delimiter
     ensures { result ≡ delimiter_of sub }
 {
@@ -96,6 +97,7 @@ impl From<&Record> for Part {
     }
 }
 
+// A `From` could not ask for a scalar value.
 fn char_of(value: u64) -> char
     requires { is_scalar value ≡ true }
     ensures { result ≡ value }

@@ -61,6 +61,7 @@ impl fmt::Display for QuotedChar {
     }
 }
 
+// A type of another crate that is shown at one place is a function, and no wrapper with `Display`.
 fn show_literal<W: fmt::Write>(literal: Literal, f: &mut fmt::Formatter<W>) -> fmt::Result {
     match literal {
         Literal::Char(char) => write!(f, "char {}", QuotedChar(char)),

@@ -95,7 +95,7 @@ impl Fault {
         Fault::Ended(wanted, input.rest().last.unwrap_or(0))
     }
 
-    // Its number among the refusals.
+    // Its number among the refusals, as users see it.
     pub fn number(&self) -> u8
         ensures { result ≡ number self.now }
     {

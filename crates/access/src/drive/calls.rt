@@ -95,7 +95,7 @@ fn next_call<K: Seed + Drop, V: Seed + Drop, C: Caller<K, V>>(
     }
 }
 
-// Makes the calls that the caller chooses, in so many turns at most.
+// Makes the calls that the caller chooses, in so many turns at most: there is nothing to iterate over but their number.
 pub fn drive<K: Seed + Drop, V: Seed + Drop, C: Caller<K, V>>(
     caller: &mut C,
     turn: KeyTurn,

@@ -5,6 +5,7 @@ ghost use Rattle.token_de.specs.Meaning.{on};
 ghost use Rattle.access.specs.Plain.{named, key_taken, key_read, value_read, finished, key_shown, value_shown, finish_shown};
 
 use super::{KeyTurn, NextKey, ValueTurn};
+pub use crate::reads::is_mark;
 use crate::reads::{ended, one_element, take};
 use sheet::input::Input;
 use sheet::sheet::Sheet;
