@@ -18,6 +18,7 @@ pub fn is_mark(sheet: &Sheet, punct: Punct, at: usize, to: usize) -> bool
 }
 
 // What a seed takes of an input: at least one tree, and none past its end.
+#[inline(always)]
 pub(crate) fn take<S: Seed>(input: &Input, seed: &S) -> Result<Taken<S::Value>, Fault>
     ensures value { result ≡ on (S.meaning seed.now) input.now }
     ensures within { IfOk result (λ t. (0 < t.count) × (input.now.rest.from + t.count ≤ input.now.rest.to)) }
@@ -26,6 +27,7 @@ pub(crate) fn take<S: Seed>(input: &Input, seed: &S) -> Result<Taken<S::Value>, 
 }
 
 // Reads one value and the comma after it, or the end; answers it with the place behind.
+#[inline(always)]
 pub(crate) fn one_element<S: Seed>(input: &Input, seed: &S) -> Result<(S::Value, usize), Fault>
     ensures { result ≡ element_taken (held input.now.sheet) input.now.rest.from input.now.rest.to (on (S.meaning seed.now) input.now) }
 {
@@ -35,6 +37,7 @@ pub(crate) fn one_element<S: Seed>(input: &Input, seed: &S) -> Result<(S::Value,
 }
 
 // Whether nothing is left; else the first token left is refused.
+#[inline(always)]
 pub(crate) fn ended(input: &Input) -> Result<(), Fault>
     ensures { result ≡ left_over input.now.rest }
 {

@@ -3,10 +3,9 @@ use Rattle.std.proofs.Common.{◌≡◌, Bool, true, ℕ, ◌+◌, ◌-◌, ◌<
 use Rattle.std.proofs.lemmas.Bool.{ne_eqb}
 use Rattle.sheet.specs.declared.input.Input.{Input}
 use Rattle.sheet.specs.declared.spot.Rest.{Rest}
-use Rattle.sheet.specs.declared.token.Token.{Token}
 use Rattle.sheet.specs.Sheets.{held}
 use Rattle.layout.specs.declared.kind.Delimiter.TheVariants.{Invisible}
-use Rattle.sheet.specs.Inputs.{next_token, behind}
+use Rattle.sheet.specs.Inputs.{behind, first as next_record}
 use Rattle.token_de.specs.declared.seed.Taken.{Taken}
 use Rattle.token_de.specs.declared.fault.Fault.{Fault}
 use Rattle.token_de.specs.Meaning.{Answer, Meaning, on}
@@ -18,7 +17,7 @@ use Rattle.content.specs.Contents.{content, from_group, alone}
 use Rattle.content.specs.Depths.{tail_levels}
 use Rattle.content.specs.Turns.{after_within, turn, equals_at}
 use Rattle.content.specs.Steps.{content_in, content_any}
-use Rattle.content.proofs.Rests.{some_token, not_none}
+use Rattle.content.proofs.Rests.{some_left, not_none}
 
 -- entries of content and content
 abbrev pub entries : ℕ → Meaning (Datum × Datum)
@@ -90,9 +89,9 @@ pub word_in : (depth : ℕ) (x : Input) (u : Taken Datum) → Ok u ≡ on (conte
 word_in depth x u word = content_in depth (held x.sheet) x.rest.from x.rest.to x.rest.last u (sym word)
 
 -- a turn over a list body
-module _ (depth : ℕ) {first n : ℕ} {r : Answer ℕ} (x : Input) (l : Left (content depth) depth first r x n) {o : Option Token} {b : Bool} (is : o ≡ next_token (held x.sheet) x.rest) (test : b ≡ is_some o) (holds : b ≡ true) where
+module _ (depth : ℕ) {first n : ℕ} {r : Answer ℕ} (x : Input) (l : Left (content depth) depth first r x n) {o : Option ℕ} {b : Bool} (is : o ≡ next_record x.rest) (test : b ≡ is_some o) (holds : b ≡ true) where
   some_word : x.rest.from < x.rest.to
-  some_word = some_token x o b is test holds
+  some_word = some_left x.rest o b is test holds
 
   pub list_refused : (f : Fault) → Err f ≡ on (content depth) x → Err f ≡ r
   list_refused = refused (content depth) depth x l some_word (any_word depth x l.levels some_word)
@@ -108,9 +107,9 @@ module _ (depth : ℕ) {first n : ℕ} {r : Answer ℕ} (x : Input) (l : Left (c
     list_next = let w = word_in depth x u word in next (content depth) depth x l some_word (any_word depth x l.levels some_word) u word z z_is w.0 w.1
 
 -- a turn over a member body
-module _ (depth : ℕ) {first n : ℕ} {r : Answer ℕ} (x : Input) (l : Left (entries depth) depth first r x n) {o : Option Token} {b : Bool} (is : o ≡ next_token (held x.sheet) x.rest) (test : b ≡ is_some o) (holds : b ≡ true) where
+module _ (depth : ℕ) {first n : ℕ} {r : Answer ℕ} (x : Input) (l : Left (entries depth) depth first r x n) {o : Option ℕ} {b : Bool} (is : o ≡ next_record x.rest) (test : b ≡ is_some o) (holds : b ≡ true) where
   some_entry : x.rest.from < x.rest.to
-  some_entry = some_token x o b is test holds
+  some_entry = some_left x.rest o b is test holds
 
   any_entry : (last : Option ℕ) → on (entries depth) x ≡ entries depth (held x.sheet) x.rest.from x.rest.to last
   any_entry last = rw (any_word depth x l.levels some_entry last)

@@ -16,7 +16,7 @@ use sheet::token::Delimiter;
 use sheet::tree::Tree;
 use token_de::fault::{Fault, Wanted};
 use token_de::seed::Taken;
-use token_de::separators::{past_comma, past_equals};
+use token_de::separators::{comma, equals};
 
 // One content word, of at most `depth` levels. The depth is an argument, so the bound on it is no part of an input.
 #[tactic(auto, using(crate::specs::Depths::tree_levels, crate::proofs::Seen::each_tree))]
@@ -53,7 +53,7 @@ fn content_group(
     requires { Levels depth (held body.now.sheet) body.now.rest.from body.now.rest.to }
     ensures { result ≡ from_group (held body.now.sheet) (meant depth (held body.now.sheet)) at body.now.rest.from (body.now.rest.to - body.now.rest.from) delimiter }
 {
-    let is_empty = body.token().is_none();
+    let is_empty = body.rest().first().is_none();
     match delimiter {
         Delimiter::Parenthesis if is_empty => Ok(Taken::one(Datum::Empty)),
         Delimiter::Parenthesis | Delimiter::Bracket => {
@@ -80,9 +80,10 @@ fn content_list(body: &Input, depth: usize) -> Result<usize, Fault>
 {
     let mut left = *body;
     let mut count = 0;
-    while left.token().is_some() {
+    while left.rest().first().is_some() {
         let word = content(&left, depth)?;
-        left = past_comma(&left.past(word.count))?;
+        let behind = left.past(word.count);
+        left = behind.past(comma(&behind)?);
         count += 1;
     }
     Ok(count)
@@ -97,11 +98,13 @@ fn content_members(body: &Input, depth: usize) -> Result<usize, Fault>
 {
     let mut left = *body;
     let mut count = 0;
-    while left.token().is_some() {
+    while left.rest().first().is_some() {
         let key = content(&left, depth)?;
-        let value_on = past_equals(&left, key.count)?;
+        equals(&left, key.count)?;
+        let value_on = left.past(key.count).past(1);
         let value = content(&value_on, depth)?;
-        left = past_comma(&value_on.past(value.count))?;
+        let behind = value_on.past(value.count);
+        left = behind.past(comma(&behind)?);
         count += 1;
     }
     Ok(count)

@@ -9,7 +9,7 @@ use Rattle.layout.specs.declared.fault.LoadFault.{LoadFault}
 use Rattle.layout.specs.declared.fault.LoadFault.TheVariants.{Short, OutOfRange, WrongLength, OffLine, Misplaced, TooDeep, SmallTable}
 use Rattle.layout.specs.declared.rules.Track.{Track}
 use Rattle.layout.specs.Rules.{Parts, no_record, sized, entry, group, lined, bodies_end, Placed, Ruled, Kept, FirstBreak}
-use Rattle.layout.specs.Scan.{start, fitting, level_at, along, or_later, scan, first_fault, faultless, kept}
+use Rattle.layout.specs.Scan.{start, fitting, level_at, along, fault_of, or_later, scan, first_fault, faultless, kept}
 use Rattle.layout.proofs.Bodies.{Before, ends_rise, body_found, inside_end}
 use Rattle.layout.proofs.Depths.{Only, Above, root, upper, Level, depth_here}
 
@@ -135,6 +135,17 @@ module _ (l m most : ℕ) (rs : List Record) where
       go : (o : Option LoadFault) → Told o → o ≡ None
       go None t = refl
       go (Some f) t = absurd (breaks_no_law f t ok)
+
+-- a record with no fault is not too deep
+module _ (l m most n i : ℕ) (t : Track) (rs : List Record) (r : Record) (in_range : i < length rs) (is : r ≡ entry rs i) where
+  pub level_low : fault_of l m most n i t r ≡ None → (along i t r).level ≤ most
+  level_low = go (lined l m r) (fitting n i t.next r) (leb (level_at i t) most) refl
+    where
+      go : (b c d : Bool) → leb (level_at i t) most ≡ d → cond b (cond c (cond d None (Some (TooDeep i))) (Some (Misplaced i))) (Some (OffLine i)) ≡ None → level_at i t ≤ most
+      go true true true low e = leb-true (level_at i t) most low
+      go true true false low e = absurd (let z : ◌≡◌ {A = ℕ} 0 1 = cc in omega arith)
+      go true false d low e = absurd (let z : ◌≡◌ {A = ℕ} 0 1 = cc in omega arith)
+      go false c d low e = absurd (let z : ◌≡◌ {A = ℕ} 0 1 = cc in omega arith)
 
 -- the test of all rules tells whether they are kept
 module _ (lim : Limits) (p : Parts) where

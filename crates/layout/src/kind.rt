@@ -40,6 +40,7 @@ impl TryFrom<u8> for Kind {
 
     ghost try_from_gives = { KindOf };
 
+    #[inline(always)]
     fn try_from(number: u8) -> Result<Self, UnknownNumber> {
         match number {
             0 => Ok(Kind::Ident),
@@ -56,6 +57,7 @@ impl TryFrom<u8> for LiteralKind {
 
     ghost try_from_gives = { LiteralKindOf };
 
+    #[inline(always)]
     fn try_from(number: u8) -> Result<Self, UnknownNumber> {
         match number {
             0 => Ok(LiteralKind::String),
@@ -76,6 +78,7 @@ impl TryFrom<u8> for Delimiter {
 
     ghost try_from_gives = { DelimiterOf };
 
+    #[inline(always)]
     fn try_from(number: u8) -> Result<Self, UnknownNumber> {
         match number {
             0 => Ok(Delimiter::Parenthesis),

@@ -26,6 +26,7 @@ fn is_scalar(value: u64) -> bool
 }
 
 impl Record {
+    #[inline(always)]
     pub fn is_group(&self) -> bool
         ensures { result ≡ group self.now }
     {
@@ -98,6 +99,7 @@ pub struct Track {
 
 impl Track {
     // The depth of record `i`.
+    #[inline(always)]
     fn level_at(&self, i: usize) -> u64
         ensures { result ≡ level_at i self.now }
     {
@@ -109,6 +111,7 @@ impl Track {
     }
 
     // The track behind record `i` of `count`, or the first of its rules that this record breaks.
+    #[inline(always)]
     fn along(
         &self,
         bounds: Bounds,

@@ -18,14 +18,14 @@ use Rattle.token_de.proofs.Trees.{single_exact}
 use Rattle.scalar.specs.Tokens.{token_one}
 use Rattle.scalar.specs.Units.{parenthesis, unit_of, unit_read, UnitWord, IsUnit}
 
-delimiter_set : IsSet Delimiter
+pub delimiter_set : IsSet Delimiter
 delimiter_set = Coded-set the_row.coded
 
 parens : (d : Delimiter) → parenthesis d ≡ true → d ≡ Parenthesis
 parens Parenthesis is = refl
 parens _ is = absurd (cc)
 
-empty : (h : Parts) (t : Token) (v : Unit {0}) → unit_of h t ≡ Some v → (g : Group) × (t ≡ tokens.Group g) × ((g.delimiter ≡ Parenthesis) × (g.count ≡ 0))
+pub empty : (h : Parts) (t : Token) (v : Unit {0}) → unit_of h t ≡ Some v → (g : Group) × (t ≡ tokens.Group g) × ((g.delimiter ≡ Parenthesis) × (g.count ≡ 0))
 empty h (tokens.Group g) v is = (g, refl, (parens g.delimiter (grind (arith, nat_tests)), grind (arith, nat_tests)))
 empty h _ v is = absurd (cc)
 

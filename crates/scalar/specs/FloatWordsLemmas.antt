@@ -13,21 +13,21 @@ use Rattle.scalar.specs.Floats.{signed_bits, float_worth, float_read, FloatWord,
 use Rattle.scalar.specs.NumbersLemmas.{number_exact}
 use Rattle.scalar.specs.Tokens.{token_one}
 
-sound : (b : Bool) (t : Token) (v : ℕ) → float_worth b t ≡ Some v → IsFloat b t v
+pub sound : (b : Bool) (t : Token) (v : ℕ) → float_worth b t ≡ Some v → IsFloat b t v
 sound b (tokens.Literal (literals.Integer i)) v is = (inl i, refl, cc)
 sound b (tokens.Literal (literals.Float x)) v is = (inr x, refl, cc)
 sound b _ v is = absurd (cc)
 
-worth_of : (b : Bool) (n : Integer ⊎ ℕ) → float_worth b (numeral n) ≡ Some (signed_bits b (numeral_bits n))
+pub worth_of : (b : Bool) (n : Integer ⊎ ℕ) → float_worth b (numeral n) ≡ Some (signed_bits b (numeral_bits n))
 worth_of b (inl i) = refl
 worth_of b (inr x) = refl
 
-same : (x y : Integer ⊎ ℕ) → numeral x ≡ numeral y → x ≡ y
+pub same : (x y : Integer ⊎ ℕ) → numeral x ≡ numeral y → x ≡ y
 same (inl i) (inl j) e = cc
 same (inr x) (inr y) e = cc
 same _ _ e = absurd (cc)
 
-no_minus : (n : Integer ⊎ ℕ) → minus ≢ numeral n
+pub no_minus : (n : Integer ⊎ ℕ) → minus ≢ numeral n
 no_minus (inl i) e = cc
 no_minus (inr x) e = cc
 

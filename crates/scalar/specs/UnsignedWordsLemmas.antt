@@ -14,7 +14,7 @@ use Rattle.scalar.specs.Integers.{magnitude_of, integer}
 use Rattle.scalar.specs.Tokens.{token_one, integer_of, integer_bits}
 
 -- what is between the ends is the magnitude
-inside : (s : Unsigned) (o : Option ℕ) (v : ℕ) → between s o ≡ Some v → (o ≡ Some v) × (s.low ≤ v) × (v ≤ s.high)
+pub inside : (s : Unsigned) (o : Option ℕ) (v : ℕ) → between s o ≡ Some v → (o ≡ Some v) × (s.low ≤ v) × (v ≤ s.high)
 inside s None v is = absurd (cc)
 inside s (Some m) v is = (grind (arith, nat_tests), grind (arith, nat_tests), grind (arith, nat_tests))
 

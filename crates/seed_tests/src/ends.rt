@@ -10,6 +10,7 @@ use scalar::text::{Identifier, Str};
 use scalar::unit::EmptyParens;
 use scalar::unsigned::Unsigned;
 use sheet::sheet::Sheet;
+use sheet::spot::Spot;
 use std::process::Abort;
 use std::test::Fail;
 use token_de::cursor::TokenDe;
@@ -91,4 +92,27 @@ fn words_follow_each_other(rt: HostRuntime) -> Result<(), Fail> {
     assert_eq!(rt; cursor.read(&sheet, &Str)?.len, 4);
     cursor.read(&sheet, &EmptyParens)?;
     check_all(&rt, &mut cursor, &sheet, 11, 8)
+}
+
+// `- 5` as a whole, and cut off behind the `-`: a part of a run ends where it is cut, and its end is named by the
+// last token that it is told.
+#[test]
+fn a_part_of_a_run_ends_where_it_is_cut(rt: HostRuntime) -> Result<(), Fail> {
+    let records = [group(1, 1, 2), punct(b'-'), integer(5)];
+    let sheet = sheet_of(&records);
+    let whole = sheet.input(Spot::within(body_of(&rt, &sheet, &records)?));
+    assert_eq!(rt; whole.take(9).rest(), whole.rest());
+    assert_eq!(rt; Signed::I8.read(&whole.take(2))?.value, -5);
+    let cut = whole.take(1);
+    assert_eq!(rt; Signed::I8.read(&cut).err().map(refusal), Some((10, 1, 2)));
+    let end = cut.past(1);
+    assert_eq!(rt; Signed::I8.read(&end).err().map(refusal), Some((11, 1, 2)));
+    let told = end.with_last(Some(2));
+    assert_eq!(rt; Signed::I8.read(&told).err().map(refusal), Some((11, 2, 2)));
+    let untold = whole.take(0).with_last(None);
+    assert_eq!(rt;
+        Signed::I8.read(&untold).err().map(refusal),
+        Some((11, 0, 2))
+    );
+    Ok(())
 }

@@ -8,7 +8,7 @@ use Rattle.sheet.specs.declared.token.Token.{Token}
 use Rattle.sheet.specs.Tokens.{token}
 use Rattle.sheet.specs.Spots.{is_run}
 use Rattle.sheet.specs.Trees.{if_there}
-use Rattle.sheet.specs.Inputs.{at_most, first, next_token, behind}
+use Rattle.sheet.specs.Inputs.{at_most, first, next_token, behind, front}
 use Rattle.sheet.proofs.Runs.{run_is, run_test, run_part, run_fits}
 
 -- the next record of a rest
@@ -43,6 +43,12 @@ module _ (h : Parts) (r : Rest) (lawful : kept limits h ≡ true) (run : is_run 
   behind_run n =
       let is = run_is h r.from r.to run in
       run_test h (r.from + at_most r n) r.to (run_part h r.from r.to (r.from + at_most r n) r.to is (omega arith) (omega (arith, is.order)) (omega arith))
+
+  -- and so are its first trees
+  pub front_run : (n : ℕ) → is_run h (front r n).from (front r n).to ≡ true
+  front_run n =
+      let is = run_is h r.from r.to run in
+      run_test h r.from (r.from + at_most r n) (run_part h r.from r.to r.from (r.from + at_most r n) is (omega arith) (omega arith) (omega (arith, is.order)))
 
   -- the token behind the next one
   pub second_token : next_token h (behind r 1) ≡ cond (ltb (r.from + 1) r.to) (if_there h (r.from + 1) (token h (r.from + 1))) None

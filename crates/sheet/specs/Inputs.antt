@@ -24,3 +24,7 @@ at_most r n = min n (r.to - r.from)
 -- behind n trees of a rest, or behind all where it has fewer; the last of them is then the last token passed
 abbrev pub behind : Rest → ℕ → Rest
 behind r n = record { from = r.from + at_most r n; to = r.to; last = cond (nat_lt 0 (at_most r n)) (Some (r.from + at_most r n - 1)) r.last }
+
+-- the first n trees of a rest, or all where it has fewer
+abbrev pub front : Rest → ℕ → Rest
+front r n = record { from = r.from; to = r.from + at_most r n; last = r.last }

@@ -1,9 +1,10 @@
-// What a seed reads from: the rest of a run, on the sheet that has it.
+// What a seed reads from: the rest of a run, on the sheet that has it. These are steps of every read, so they are marked
+// for inlining: a read whose every step copies an `Input` takes several times as long.
 ghost use Rattle.std.specs.Prelude.{◌≡◌, true, false, MatchOption};
 ghost use Rattle.sheet.specs.Sheets.{held};
 ghost use Rattle.sheet.specs.Spots.{is_run, rest};
 ghost use Rattle.sheet.specs.Trees.{shown};
-ghost use Rattle.sheet.specs.Inputs.{first, next_token, next_tree, behind};
+ghost use Rattle.sheet.specs.Inputs.{first, next_token, next_tree, behind, front};
 
 use crate::sheet::Sheet;
 use crate::spot::{Body, Rest, Spot};
@@ -20,6 +21,7 @@ pub struct Input<'a> {
 
 impl Rest {
     // The next record, unless nothing is left.
+    #[inline(always)]
     pub fn first(&self) -> Option<usize>
         ensures { result ≡ first self.now }
     {
@@ -27,6 +29,7 @@ impl Rest {
     }
 
     // Past so many trees, or past all of them where it has fewer.
+    #[inline(always)]
     pub fn past(self, count: usize) -> Rest
         ensures { result ≡ behind self count }
     {
@@ -45,6 +48,7 @@ impl Rest {
 
 impl<'a> Sheet<'a> {
     // What it has of a spot, to read from.
+    #[inline(always)]
     pub fn input(&self, spot: Spot) -> Input<'a>
         ensures sheet { result.sheet ≡ self.now }
         ensures rest { result.rest ≡ rest (held self.now) spot }
@@ -75,6 +79,7 @@ impl<'a> Sheet<'a> {
 
 impl<'a> Input<'a> {
     // Its sheet.
+    #[inline(always)]
     pub fn sheet(&self) -> Sheet<'a>
         ensures { result ≡ self.now.sheet }
     {
@@ -82,6 +87,7 @@ impl<'a> Input<'a> {
     }
 
     // The rest of the run, in plain numbers.
+    #[inline(always)]
     pub fn rest(&self) -> Rest
         ensures { result ≡ self.now.rest }
     {
@@ -89,6 +95,7 @@ impl<'a> Input<'a> {
     }
 
     // The next token, unless nothing is left.
+    #[inline(always)]
     pub fn token(&self) -> Option<Token>
         ensures { result ≡ next_token (held self.now.sheet) self.now.rest }
     {
@@ -97,6 +104,7 @@ impl<'a> Input<'a> {
     }
 
     // The next tree, unless nothing is left.
+    #[inline(always)]
     pub fn tree(&self) -> Option<Tree<'a>>
         ensures { shown result ≡ next_tree (held self.now.sheet) self.now.rest }
     {
@@ -105,6 +113,7 @@ impl<'a> Input<'a> {
     }
 
     // Past so many trees, or past all of them where it has fewer.
+    #[inline(always)]
     pub fn past(&self, count: usize) -> Input<'a>
         ensures sheet { result.sheet ≡ self.now.sheet }
         ensures rest { result.rest ≡ behind self.now.rest count }
@@ -112,6 +121,37 @@ impl<'a> Input<'a> {
         Input {
             sheet: self.sheet,
             rest: self.rest.past(count),
+        }
+    }
+
+    // Its first so many trees, or all of them where it has fewer, as a run of their own.
+    #[inline(always)]
+    #[tactic(auto, using(crate::proofs::Inputs::rest_order))]
+    pub fn take(&self, count: usize) -> Input<'a>
+        ensures sheet { result.sheet ≡ self.now.sheet }
+        ensures rest { result.rest ≡ front self.now.rest count }
+    {
+        let Rest { from, to, last } = self.rest;
+        Input {
+            sheet: self.sheet,
+            rest: Rest {
+                from,
+                to: from + count.min(to - from),
+                last,
+            },
+        }
+    }
+
+    // The same, with this as the last token passed.
+    #[inline(always)]
+    pub fn with_last(&self, last: Option<usize>) -> Input<'a>
+        ensures sheet { result.sheet ≡ self.now.sheet }
+        ensures rest { result.rest ≡ record { from = self.now.rest.from; to = self.now.rest.to; last = last } }
+    {
+        let Rest { from, to, .. } = self.rest;
+        Input {
+            sheet: self.sheet,
+            rest: Rest { from, to, last },
         }
     }
 }

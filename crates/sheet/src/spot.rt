@@ -30,6 +30,7 @@ pub struct Rest {
 }
 
 impl Body {
+    #[inline(always)]
     pub(crate) fn new(parent: usize, token: Group) -> Body
         requires { token.first + token.count < 2 ^ 64 }
         ensures { result ≡ body_of parent token }
@@ -77,6 +78,7 @@ impl Spot {
     }
 
     // At the start of a body.
+    #[inline(always)]
     pub fn within(body: Body) -> Spot
         ensures { result ≡ at_body body }
     {
@@ -108,6 +110,7 @@ impl Spot {
     }
 
     // At another place of the same run.
+    #[inline(always)]
     pub fn past(self, place: usize) -> Spot
         ensures { result ≡ past self place }
     {

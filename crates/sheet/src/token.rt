@@ -79,6 +79,7 @@ impl Punct {
 }
 
 // A number that stands for no delimiter has a meaning too, so this is more than its `TryFrom`.
+#[inline(always)]
 fn delimiter_of(sub: u8) -> Delimiter
     ensures { result ≡ delimiter_of sub }
 {
@@ -106,6 +107,7 @@ fn char_of(value: u64) -> char
 }
 
 // The literal of a record whose kind is that of literals, and which is no string.
+#[inline(always)]
 fn literal_of(record: &Record) -> Literal
     requires { scalar_char «record».now }
     ensures { result ≡ literal_of «record».now }
@@ -125,6 +127,7 @@ fn literal_of(record: &Record) -> Literal
 }
 
 // What a record of a sheet means. A `From` could not ask that the record keeps the rules.
+#[inline(always)]
 pub(crate) fn token_of(record: &Record) -> Token
     requires { «record».now.kind ≡ 2 → scalar_char «record».now }
     ensures { result ≡ token_of «record».now }

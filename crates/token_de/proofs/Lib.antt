@@ -1,3 +1,4 @@
 mod Cursors
+pub mod Passed
 pub mod Trees
 pub mod Words

@@ -1,5 +1,5 @@
 -- Words that begin a run. Assumes nothing.
-use Rattle.std.proofs.Common.{◌≡◌, ℕ, ◌+◌, ◌-◌, ◌≤◌, length, None, Ok, Err, sym, ap, ap₂, ◌∙◌, arith}
+use Rattle.std.proofs.Common.{◌≡◌, ℕ, ◌+◌, ◌-◌, ◌≤◌, length, None, Ok, Err, sym, ap, ◌∙◌, subst, arith}
 use native.Mathlib.Bridge.{le_prop}
 use Rattle.layout.specs.Rules.{Parts, limits, Kept}
 use Rattle.sheet.specs.declared.spot.Spot.{Spot}
@@ -36,38 +36,51 @@ module _ {V : Type 0} {m : Meaning V} {w : Grammar V} (exact : Exact m w) where
         joined (λ n. w h p (same.0 n) (same.1 n)) (exact.one h p _ _ k) x.3 y.3 n,
       )
 
-  -- a read of what a sheet has of a spot
+  -- a read on a cursor: accepted
+  pub accepts : (h : Parts) (s : Spot) (r : Rest) (t : Taken V) → Lawful m → Kept limits h → r ≡ rest h s → Run h r.from r.to → Ok t ≡ m h r.from r.to r.last →
+      Accepted w h s (past s (r.from + t.count)) t.value
+  accepts h s r t law k is run ok = at_rest (rest h s) (subst (λ (x : Rest). Run h x.from x.to) is run) (ok ∙ ap (λ (x : Rest). m h x.from x.to x.last) is) (ap (λ (x : Rest). x.from) is)
+    where
+      at_rest : (x : Rest) → Run h (rest h s).from (rest h s).to → Ok t ≡ m h (rest h s).from (rest h s).to (rest h s).last → r.from ≡ (rest h s).from → Accepted w h s (past s (r.from + t.count)) t.value
+      at_rest x there answer from =
+          let inside = (law.within h (rest h s).from (rest h s).to (rest h s).last t k there (sym answer)).1 in
+          let word = exact.sound h (rest h s).from (rest h s).to (rest h s).last t k there (sym answer) in
+          record {
+            end = (rest h s).from + t.count;
+            inside = inside;
+            word = word;
+            only = λ y. one_way h (rest h s).from (rest h s).to k there y ((rest h s).from + t.count, inside, t.value, word);
+            passes = ap (λ n. past s (n + t.count)) from;
+          }
+
+  -- and refused
+  pub refuses : (h : Parts) (s : Spot) (r : Rest) (f : Fault) → Kept limits h → r ≡ rest h s → Run h r.from r.to → Err f ≡ m h r.from r.to r.last → Refused m w h s s f
+  refuses h s r f k is run no_word =
+      let there = subst (λ (x : Rest). Run h x.from x.to) is run in
+      let fault = no_word ∙ ap (λ (x : Rest). m h x.from x.to x.last) is in
+      record {
+        none = λ x. let c = exact.complete h (rest h s).from x.0 (rest h s).to (rest h s).last x.2 k there x.1 x.3 in let z : ◌≡◌ {A = ℕ} 0 1 = cc in omega arith;
+        fault = sym fault;
+        stays = λ _. s;
+      }
+
+  -- the same of an input, what a sheet has of a spot
   module _ (x : Input) (sheet : Sheet) (s : Spot) (same : x.sheet ≡ sheet) (is : x.rest ≡ rest (held sheet) s) where
     keeps : Kept limits (held sheet)
     keeps = kept_rules limits (held sheet) sheet.lawful
 
-    there : Run (held sheet) (rest (held sheet) s).from (rest (held sheet) s).to
-    there = run_is (held sheet) _ _ (ap₂ (λ (y : Sheet) (r : Rest). is_run (held y) r.from r.to) (sym same) (sym is) ∙ x.run)
+    there : Run (held sheet) x.rest.from x.rest.to
+    there = run_is (held sheet) _ _ (ap (λ (y : Sheet). is_run (held y) x.rest.from x.rest.to) (sym same) ∙ x.run)
 
-    meant : on m x ≡ m (held sheet) (rest (held sheet) s).from (rest (held sheet) s).to (rest (held sheet) s).last
-    meant = ap₂ (λ (y : Sheet) (r : Rest). m (held y) r.from r.to r.last) same is
+    meant : on m x ≡ m (held sheet) x.rest.from x.rest.to x.rest.last
+    meant = ap (λ (y : Sheet). m (held y) x.rest.from x.rest.to x.rest.last) same
 
     -- what a seed takes ends inside the sheet
     pub taken_inside : (t : Taken V) → Lawful m → Ok t ≡ on m x → x.rest.from + t.count ≤ length (held sheet).records
-    taken_inside t law ok = let i = (law.within (held sheet) _ _ _ t keeps there (sym (ok ∙ meant))).1 in omega (arith, i, ap (λ (r : Rest). r.from) is, run_fits (held sheet) _ _ sheet.lawful there)
+    taken_inside t law ok = omega (arith, law.within (held sheet) _ _ _ t keeps there (sym (ok ∙ meant)), run_fits (held sheet) _ _ sheet.lawful there)
 
-    -- accepted
-    pub accepts : (t : Taken V) → Lawful m → Ok t ≡ on m x → Accepted w (held sheet) s (past s (x.rest.from + t.count)) t.value
-    accepts t law ok =
-        let inside = (law.within (held sheet) _ _ _ t keeps there (sym (ok ∙ meant))).1 in
-        let word = exact.sound (held sheet) _ _ _ t keeps there (sym (ok ∙ meant)) in
-        record {
-          end = (rest (held sheet) s).from + t.count;
-          inside = inside;
-          word = word;
-          only = λ y. one_way (held sheet) _ _ keeps there y ((rest (held sheet) s).from + t.count, inside, t.value, word);
-          passes = ap (λ (r : Rest). past s (r.from + t.count)) is;
-        }
+    pub read_accepts : (t : Taken V) → Lawful m → Ok t ≡ on m x → Accepted w (held sheet) s (past s (x.rest.from + t.count)) t.value
+    read_accepts t law ok = accepts (held sheet) s x.rest t law keeps is there (ok ∙ meant)
 
-    -- and refused
-    pub refuses : (f : Fault) → Err f ≡ on m x → Refused m w (held sheet) s s f
-    refuses f no_word = record {
-      none = λ y. let c = exact.complete (held sheet) _ y.0 _ (rest (held sheet) s).last y.2 keeps there y.1 y.3 in let n = no_word ∙ meant in let z : ◌≡◌ {A = ℕ} 0 1 = cc in omega arith;
-      fault = sym (no_word ∙ meant);
-      stays = λ _. s;
-    }
+    pub read_refuses : (f : Fault) → Err f ≡ on m x → Refused m w (held sheet) s s f
+    read_refuses f no_word = refuses (held sheet) s x.rest f keeps is there (no_word ∙ meant)

@@ -1,5 +1,5 @@
 -- The comma and the `=` that stand behind what a seed took. Assumes nothing.
-use Rattle.std.specs.Prelude.{◌≡◌, ℕ, ◌+◌, Bool, false, cond, Some, Ok, Err, ◌==◌, nat_lt}
+use Rattle.std.specs.Prelude.{◌≡◌, ℕ, ◌+◌, ◌-◌, Bool, false, cond, Some, Ok, Err, ◌==◌, nat_lt}
 use Rattle.layout.specs.Rules.{Parts}
 use Rattle.sheet.specs.declared.token.Token.{Token}
 use Rattle.sheet.specs.declared.token.Token.TheVariants as tokens
@@ -27,14 +27,23 @@ after h q e = cond (nat_lt q e) (cond (is 44 (token h q)) (Ok (q + 1)) (Err (NoS
 abbrev pub equals : Parts → ℕ → ℕ → ℕ → Answer ℕ
 equals h p q e = cond (nat_lt q e) (cond (is 61 (token h q)) (Ok q) (Err (NoEquals q))) (Err (NoEquals p))
 
+-- n trees of x are the comma, or it is at the end
+abbrev pub Comma : Input → ℕ → Type 0
+Comma x n = after (held x.sheet) x.rest.from x.rest.to ≡ Ok (x.rest.from + n)
+
 -- y is left of x past a comma, or at the end
 pub record PastComma (x y : Input) : Type 0 where
   pub sheet : y.sheet ≡ x.sheet
   pub place : after (held x.sheet) x.rest.from x.rest.to ≡ Ok y.rest.from
   pub to : y.rest.to ≡ x.rest.to
+  pub rest : y.rest ≡ behind x.rest (y.rest.from - x.rest.from)
 
 abbrev pub NoComma : Input → Fault → Type 0
 NoComma x f = after (held x.sheet) x.rest.from x.rest.to ≡ Err f
+
+-- the `=` stands behind the key of n trees of x
+abbrev pub Equals : Input → ℕ → Type 0
+Equals x n = equals (held x.sheet) x.rest.from (behind x.rest n).from x.rest.to ≡ Ok (behind x.rest n).from
 
 -- y is left of x past the `=` behind its key of n trees
 pub record PastEquals (x : Input) (n : ℕ) (y : Input) : Type 0 where

@@ -55,13 +55,13 @@ impl TokenDe {
     }
 
     // The next tree and its record; the cursor stays.
+    #[inline(always)]
     #[tactic(auto, unfolding(crate::specs::Cursors::peeked))]
     pub fn peek<'a>(&self, sheet: &Sheet<'a>) -> Option<(usize, Tree<'a>)>
         ensures { peek_shown result ≡ peeked (held sheet.now) self.now.at }
     {
-        let input = sheet.input(self.at);
-        let rest = input.rest();
-        let tree = input.tree()?;
+        let rest = sheet.rest(self.at);
+        let tree = sheet.tree(rest.first()?)?;
         Some((rest.from, tree))
     }
 
@@ -71,9 +71,10 @@ impl TokenDe {
         ensures shows { peek_shown result ≡ peeked (held sheet.now) self.old.at }
         ensures passes { self.new.at ≡ passed_one (held sheet.now) self.old.at }
     {
-        let (record, tree) = self.peek(sheet)?;
-        self.at = self.at.past(record + 1);
-        Some((record, tree))
+        let rest = sheet.rest(self.at);
+        let passed = sheet.tree(rest.first()?)?;
+        self.at = self.at.past(rest.from + 1);
+        Some((rest.from, passed))
     }
 
     // The text of the next token, an identifier or a string literal, which is passed.
@@ -82,9 +83,9 @@ impl TokenDe {
         ensures answer { text_shown result ≡ text_read (held sheet.now) self.old.at }
         ensures passes { self.new.at ≡ text_after (held sheet.now) self.old.at }
     {
-        let input = sheet.input(self.at);
-        let ended = Fault::ended(Wanted::String, &input);
-        let at = input.rest().first().ok_or(ended)?;
+        let rest = sheet.rest(self.at);
+        let ended = Fault::Ended(Wanted::String, rest.last.unwrap_or(0));
+        let at = rest.first().ok_or(ended)?;
         let text = sheet.text(at).ok_or(Fault::Wrong(Wanted::String, at))?;
         self.at = self.at.past(at + 1);
         Ok(text)

@@ -82,6 +82,7 @@ impl DataFault {
 
 impl Fault {
     // The next token is not what was wanted.
+    #[inline(always)]
     pub fn wrong(wanted: Wanted, input: &Input) -> Fault
         ensures { result ≡ Wrong wanted input.now.rest.from }
     {
@@ -89,6 +90,7 @@ impl Fault {
     }
 
     // No token is left: this names the last one passed, else record 0.
+    #[inline(always)]
     pub fn ended(wanted: Wanted, input: &Input) -> Fault
         ensures { result ≡ Ended wanted (unwrap_or input.now.rest.last 0) }
     {

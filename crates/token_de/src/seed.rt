@@ -38,6 +38,7 @@ pub trait Words: Seed {
 
 impl<V> Taken<V> {
     // One tree, and its value.
+    #[inline(always)]
     pub fn one(value: V) -> Taken<V>
         ensures { result ≡ record { count = 1; value = value } }
     {
@@ -46,6 +47,7 @@ impl<V> Taken<V> {
 }
 
 // The next token of a rest, on a sheet that need not have it as a run; `wanted` says what was to stand there.
+#[inline(always)]
 pub fn next_token(sheet: &Sheet, rest: Rest, wanted: Wanted) -> Result<Token, Fault>
     ensures { result ≡ next wanted (held sheet.now) rest.from rest.to rest.last }
 {
@@ -57,6 +59,7 @@ pub fn next_token(sheet: &Sheet, rest: Rest, wanted: Wanted) -> Result<Token, Fa
 }
 
 // The next token of an input.
+#[inline(always)]
 pub fn first_token(input: &Input, wanted: Wanted) -> Result<Token, Fault>
     ensures { result ≡ next wanted (held input.now.sheet) input.now.rest.from input.now.rest.to input.now.rest.last }
 {

@@ -15,6 +15,7 @@ use token_de::seed::{Seed, Taken};
 use token_de::separators::past_equals;
 
 // Reads one key and the `=` after it; answers it with the place behind.
+#[inline(always)]
 fn one_key<K: Seed>(input: &Input, seed: &K) -> Result<(K::Value, usize), Fault>
     ensures { result ≡ key_taken (held input.now.sheet) input.now.rest.from input.now.rest.to (on (K.meaning seed.now) input.now) }
 {
@@ -24,6 +25,7 @@ fn one_key<K: Seed>(input: &Input, seed: &K) -> Result<(K::Value, usize), Fault>
 }
 
 // A data fault that stands at record 0 is named by the first token of the value, if there is one.
+#[inline(always)]
 fn named(fault: Fault, rest: Rest) -> Fault
     ensures { result ≡ named rest.from rest.to fault }
 {

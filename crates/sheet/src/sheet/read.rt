@@ -11,17 +11,18 @@ use crate::token::{Part, Token, token_of};
 use crate::tree::Tree;
 
 // The bytes of a part of a pool, as far as the pool goes.
+#[inline(always)]
+#[tactic(auto, using(std::proofs::lemmas::List::drop_min))]
 fn cut(pool: &[u8], part: Part) -> &[u8]
     ensures { result.now ≡ bytes_of pool.now part }
 {
-    match pool.get(part.start..) {
-        Some(rest) => &rest[..part.len.min(rest.len())],
-        None => &[],
-    }
+    let rest = &pool[part.start.min(pool.len())..];
+    &rest[..part.len.min(rest.len())]
 }
 
 impl<'a> Sheet<'a> {
     // The text that is a part of a pool.
+    #[inline(always)]
     fn part(&self, pool: Pool, part: Part) -> Text<'a>
         ensures { worded result ≡ record { pool = pool; start = part.start; bytes = bytes_of (pool_of (held self.now) pool) part } }
     {
@@ -33,6 +34,7 @@ impl<'a> Sheet<'a> {
     }
 
     // What record `at` means, if there is such a record.
+    #[inline(always)]
     pub fn token(&self, at: usize) -> Option<Token>
         ensures { result ≡ if_there (held self.now) at (token (held self.now) at) }
     {
@@ -41,6 +43,7 @@ impl<'a> Sheet<'a> {
     }
 
     // The tree of record `at`, if there is such a record.
+    #[inline(always)]
     pub fn tree(&self, at: usize) -> Option<Tree<'a>>
         ensures { shown result ≡ if_there (held self.now) at (tree_of (held self.now) at (token (held self.now) at)) }
     {
@@ -55,6 +58,7 @@ impl<'a> Sheet<'a> {
     }
 
     // The text of record `at`, if that is an identifier or a string literal.
+    #[inline(always)]
     pub fn text(&self, at: usize) -> Option<Text<'a>>
         ensures { text_shown result ≡ (if nat_lt at (length (held self.now).records) then text_of (held self.now) (token (held self.now) at) else None) }
     {
@@ -66,6 +70,7 @@ impl<'a> Sheet<'a> {
     }
 
     // The bytes of a part of one of its pools, as far as the pool goes.
+    #[inline(always)]
     pub fn bytes(&self, pool: Pool, part: Part) -> &'a [u8]
         ensures { result.now ≡ bytes_of (pool_of (held self.now) pool) part }
     {

@@ -8,6 +8,7 @@ use crate::spot::{Body, Rest, Spot};
 use layout::record::Record;
 
 // Whether a record is a group whose body holds the records of this run.
+#[inline(always)]
 fn holds(record: &Record, run: Body) -> bool
     ensures { result ≡ holds «record».now run.from run.to }
 {
@@ -18,6 +19,7 @@ fn holds(record: &Record, run: Body) -> bool
 
 impl Sheet<'_> {
     // Whether the group that the run came from holds it.
+    #[inline(always)]
     fn body_holds(&self, run: Body) -> bool
         ensures { result ≡ (nat_lt run.parent (length (held self.now).records) && holds (entry (held self.now).records run.parent) run.from run.to) }
     {
@@ -35,6 +37,7 @@ impl Sheet<'_> {
     }
 
     // Whether it has this run.
+    #[inline(always)]
     #[tactic(auto, unfolding(crate::specs::Spots::is_run))]
     pub(crate) fn has_run(&self, run: Body) -> bool
         ensures { result ≡ is_run (held self.now) run.from run.to }
@@ -43,6 +46,7 @@ impl Sheet<'_> {
     }
 
     // Whether it has the spot's run, and the spot stands in it.
+    #[inline(always)]
     fn stands(&self, spot: Spot) -> bool
         ensures { result ≡ stands (held self.now) spot }
     {
@@ -62,6 +66,7 @@ impl Sheet<'_> {
 }
 
 impl Spot {
+    #[inline(always)]
     fn last_passed(&self) -> Option<usize>
         ensures { result ≡ last_passed self.now }
     {
@@ -71,6 +76,7 @@ impl Spot {
 
 impl Sheet<'_> {
     // The rest of a spot's run, and the last token passed: nothing where this sheet does not have the run.
+    #[inline(always)]
     pub fn rest(&self, spot: Spot) -> Rest
         ensures { Rested (held self.now) spot result }
     {

@@ -6,14 +6,14 @@ use Rattle.sheet.specs.Sheets.{held}
 use Rattle.sheet.specs.Spots.{past}
 use Rattle.sheet.proofs.Runs.{few_records}
 use Rattle.token_de.specs.Reading.{Accepted}
-use Rattle.token_de.proofs.Words.{taken_inside, accepts, refuses}
+use Rattle.token_de.proofs.Words.{taken_inside, read_accepts, read_refuses}
 use Rattle.token_de.proofs.cursor.TokenDe.read.Goals as goal
 
 pub returns-in_err-count : goal.returns-in_err-count
 returns-in_err-count g c =
     let x = c.input-input in
     let p = err_from_is_err_and c.from_residual.result c.from_residual.ensures.1 in
-    rw (p.1, p.2) (refuses (g.met.S.Words.exact c.args.seed.now) x.result c.args.sheet.now c.args.self.now.at x.ensures.sheet x.ensures.rest c.in_err-count.field-0.0 c.in_err-count.ensures)
+    rw (p.1, p.2) (read_refuses (g.met.S.Words.exact c.args.seed.now) x.result c.args.sheet.now c.args.self.now.at x.ensures.sheet x.ensures.rest c.in_err-count.field-0.0 c.in_err-count.ensures)
 
 pub overflow_add-rest : goal.overflow_add-rest
 overflow_add-rest g c =
@@ -28,4 +28,4 @@ returns g c =
     let t = c.in_ok-count.field-0 in
     let passed = ap (λ (r : Rest). past s (r.from + t.count)) (sym c.rest.ensures) ∙ sym c.past-self.ensures in
     subst (λ (after : Spot). Accepted (g.S.Words.word c.args.seed.now) (held c.args.sheet.now) s after t.value) passed
-    (accepts (g.met.S.Words.exact c.args.seed.now) x.result c.args.sheet.now s x.ensures.sheet x.ensures.rest t (g.met.S.Seed.lawful c.args.seed.now) c.in_ok-count.ensures)
+    (read_accepts (g.met.S.Words.exact c.args.seed.now) x.result c.args.sheet.now s x.ensures.sheet x.ensures.rest t (g.met.S.Seed.lawful c.args.seed.now) c.in_ok-count.ensures)
