@@ -17,7 +17,6 @@ use token_de::fault::{Fault, Wanted};
 use token_de::seed::{Seed, Taken};
 
 // A name or a string, as a text.
-#[inline(always)]
 pub(crate) fn text(input: &Input) -> Result<Taken<Datum>, Fault>
     ensures { result ≡ (on string_read input.now then text_value) }
 {
@@ -29,7 +28,6 @@ pub(crate) fn text(input: &Input) -> Result<Taken<Datum>, Fault>
 }
 
 // The word that the next token is, a literal.
-#[inline(always)]
 pub(crate) fn from_literal(input: &Input, literal: Literal) -> Result<Taken<Datum>, Fault>
     ensures { result ≡ (literal_value literal input.now.rest.from then taken 1) }
 {
@@ -46,7 +44,6 @@ pub(crate) fn from_literal(input: &Input, literal: Literal) -> Result<Taken<Datu
 }
 
 // The value of the token behind the next one, a `-`.
-#[inline(always)]
 fn negated(token: Token, input: &Input) -> Result<Datum, Fault>
     ensures { result ≡ negated token input.now.rest.from }
 {
@@ -62,7 +59,6 @@ fn negated(token: Token, input: &Input) -> Result<Datum, Fault>
 }
 
 // The word that begins with the next token, a punct.
-#[inline(always)]
 pub(crate) fn from_punct(input: &Input, punct: Punct) -> Result<Taken<Datum>, Fault>
     ensures { result ≡ from_punct (held input.now.sheet) input.now.rest.from input.now.rest.to punct }
 {
